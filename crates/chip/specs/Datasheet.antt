@@ -5,7 +5,9 @@ use Prim.Native.Nat.{ℕ}
 use lib.IntN.{ℤ}
 use Rattle.std.specs.declared.option.Option.{Option}
 use Rattle.chip.specs.declared.state.Codes.{Codes}
+use Rattle.chip.specs.declared.state.Constants.{Constants}
 use Rattle.chip.specs.declared.state.Held.{Held}
+use Rattle.chip.specs.declared.state.Masks.{Masks}
 use Rattle.chip.specs.declared.state.Settings.{Settings}
 use Rattle.chip.specs.declared.state.State.{State}
 
@@ -72,3 +74,16 @@ pub record Datasheet : Type 0 where
 
 abbrev pub meaning : Datasheet → Settings → Wanted
 meaning m s = record { rate = m .rate s; off = m .off s; two-way = m .two-way s }
+
+abbrev pub masks-of : Datasheet → Settings → Masks
+masks-of m s = record { off = m .off s; «two_way» = m .two-way s }
+
+abbrev pub constants-of : Datasheet → Constants
+constants-of m = record {
+  «sum_bits» = m .sum-bits;
+  «count_bits» = m .count-bits;
+  fresh = m .fresh;
+  «last_address» = m .last-address;
+  refresh = m .refresh;
+  «refresh_v» = m .refresh-v;
+}

@@ -3,8 +3,3 @@ pub mod Registers
 pub mod Datasheet
 pub mod Chip
 pub mod Laws
-pub mod Table
-pub mod Pac193x
-pub mod Pac194x
-pub mod Figures
-pub mod Theorems

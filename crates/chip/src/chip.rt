@@ -31,11 +31,12 @@ fn add<M: Make>(settings: Settings, i: usize, codes: Codes, channel: &mut Channe
     ensures after { λ _. ⌜ now (channel .exit) ≡ adds (M·Make .sheet) settings i codes (now (channel .entry)) ⌝ }
     ensures left { λ r. ⌜ r ≡ leaves (M·Make .sheet) settings i codes (now (channel .entry)) ⌝ }
 {
-    if register::in_mask(M::off(settings), i) {
+    let masks = M::masks(settings);
+    if register::in_mask(masks.off, i) {
         return false;
     }
-    let bits = M::sum_bits();
-    let two_way = register::in_mask(M::two_way(settings), i);
+    let bits = M::constants().sum_bits;
+    let two_way = register::in_mask(masks.two_way, i);
     let product = M::product(i, two_way, codes);
     let sum = register::value_of(bits, two_way, channel.sum) + product as i128;
     *channel = Channel {
@@ -63,7 +64,7 @@ fn add_all<M: Make>(settings: Settings, codes: &[Codes], channels: &mut [Channel
 fn fill<M: Make>(state: &State, start: u8, bytes: &mut [u8])
     ensures { λ _. ⌜ now (bytes .exit) ≡ reply (M·Make .sheet) (now (state .entry)) start (length (now (bytes .entry))) ⌝ }
 {
-    let end = M::last_address() as u16 + 1;
+    let end = M::constants().last_address as u16 + 1;
     let mut at = 0;
     let mut address = start as u16;
     while at < bytes.len() && address < end {
@@ -123,7 +124,7 @@ impl<M: Make> Chip<M> {
     pub fn new() -> Chip<M>
         ensures { λ r. ⌜ r .state ≡ fresh-chip (M·Make .sheet) ⌝ }
     {
-        let fresh = M::fresh();
+        let fresh = M::constants().fresh;
         Chip {
             state: State {
                 pending: fresh,
@@ -144,12 +145,12 @@ impl<M: Make> Chip<M> {
         ensures { λ _. ⌜ now (self .exit) .state ≡ cycled (M·Make .sheet) codes (now (self .entry) .state) ⌝ }
     {
         let settings = self.state.active;
-        if M::off(settings) == 15 {
+        if M::masks(settings).off == 15 {
             return;
         }
         let running = &mut self.state.running;
         running.sum_flag |= add_all::<M>(settings, &codes, &mut running.channels);
-        let (count, over) = register::counted(M::count_bits(), running.count);
+        let (count, over) = register::counted(M::constants().count_bits, running.count);
         running.count = count;
         running.count_flag |= over;
     }
@@ -193,9 +194,10 @@ impl<M: Make> Chip<M> {
         ensures answer { λ r. ⌜ r ≡ heard address (reacts (M·Make .sheet) (now (self .entry) .state) (send address)) ⌝ }
         ensures after { λ _. ⌜ now (self .exit) .state ≡ state-after (reacts (M·Make .sheet) (now (self .entry) .state) (send address)) (now (self .entry) .state) ⌝ }
     {
-        if address == M::refresh() {
+        let commands = M::constants();
+        if address == commands.refresh {
             self.close();
-        } else if address == M::refresh_v() {
+        } else if address == commands.refresh_v {
             self.latch();
         } else {
             return Err(Refusal::NotAcknowledged(Who::Chip, address));

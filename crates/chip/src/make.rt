@@ -1,9 +1,11 @@
 // A make of chip: what code has to know of it, each function tied to the make's data sheet in specs/.
 ghost use mathlib.Core.Path.{_≡_};
-ghost use Rattle.chip.specs.Datasheet.{Datasheet};
+ghost use Rattle.chip.specs.Datasheet.{Datasheet, constants-of, masks-of};
 ghost use Rattle.chip.specs.Laws.{Lawful};
 use super::state::Codes;
+use super::state::Constants;
 use super::state::Held;
+use super::state::Masks;
 use super::state::Settings;
 use super::state::State;
 
@@ -12,43 +14,29 @@ pub trait Make {
 
     law lawful: { Lawful sheet };
 
-    fn sum_bits() -> u32
-        ensures { λ r. ⌜ r ≡ sheet .sum-bits ⌝ };
+    fn constants() -> Constants
+        ensures { λ r. ⌜ r ≡ constants-of sheet ⌝ };
 
-    fn count_bits() -> u32
-        ensures { λ r. ⌜ r ≡ sheet .count-bits ⌝ };
+    // The off and two-way masks that settings mean.
+    fn masks(settings: Settings) -> Masks
+        ensures { λ r. ⌜ r ≡ masks-of sheet settings ⌝ };
 
-    // Channels count from 0 here.
+    // What a channel, counted from 0, adds to its sum in one cycle.
     fn product(channel: usize, two_way: bool, codes: Codes) -> i64
         ensures { λ r. ⌜ r ≡ sheet .product channel «two_way» codes ⌝ };
 
-    fn fresh() -> Settings
-        ensures { λ r. ⌜ r ≡ sheet .fresh ⌝ };
-
-    fn off(settings: Settings) -> u8
-        ensures { λ r. ⌜ r ≡ sheet .off settings ⌝ };
-
-    fn two_way(settings: Settings) -> u8
-        ensures { λ r. ⌜ r ≡ sheet .two-way settings ⌝ };
-
+    // How many bytes an address has; 0 where it is not listed.
     fn width(address: u8) -> usize
         ensures { λ r. ⌜ r ≡ sheet .width address ⌝ };
 
-    fn last_address() -> u8
-        ensures { λ r. ⌜ r ≡ sheet .last-address ⌝ };
-
+    // The number that an address shows.
     fn shows(state: &State, address: u8) -> u64
         ensures { λ r. ⌜ r ≡ sheet .shows (now (state .entry)) address ⌝ };
 
+    // What a write of a number leaves, at an address that takes one.
     fn keeps(address: u8, number: u64, held: Held) -> Option<Held>
         ensures { λ r. ⌜ r ≡ sheet .keeps address number held ⌝ };
 
     fn command(address: u8) -> bool
         ensures { λ r. ⌜ r ≡ sheet .command address ⌝ };
-
-    fn refresh() -> u8
-        ensures { λ r. ⌜ r ≡ sheet .refresh ⌝ };
-
-    fn refresh_v() -> u8
-        ensures { λ r. ⌜ r ≡ sheet .refresh-v ⌝ };
 }

@@ -3,13 +3,13 @@ ghost use mathlib.Core.Path.{_≡_};
 ghost use Rattle.chip.specs.Refusals.{number-of, who-number, refused-by, at-address, at-place};
 
 // Who refused a transaction.
-#[derive(Clone, Copy, PartialEq, Eq, Debug)]
+#[derive(Clone, Copy)]
 pub enum Who {
     Wire,
     Chip,
 }
 
-#[derive(Clone, Copy, PartialEq, Eq, Debug)]
+#[derive(Clone, Copy)]
 pub enum Refusal {
     // a number, read length, scratch or book outside its limits
     Limits,

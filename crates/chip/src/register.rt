@@ -36,7 +36,7 @@ pub(crate) fn value_of(bits: u32, two_way: bool, register: u64) -> i128
 }
 
 // A sense code, one-way or in two's complement.
-pub(crate) fn sense_value(two_way: bool, sense: u16) -> i32
+pub fn sense_value(two_way: bool, sense: u16) -> i32
     ensures value { λ r. ⌜ r ≡ value-of 16 «two_way» sense ⌝ }
     ensures bound { λ r. ⌜ natAbs r < 65536 ⌝ }
 {

@@ -55,3 +55,21 @@ pub struct Held {
     pub settings: Settings,
     pub byte: u8,
 }
+
+// The channels that are off, and those that are two-way: bit 3 is channel 1, bit 0 channel 4.
+#[derive(Clone, Copy)]
+pub struct Masks {
+    pub off: u8,
+    pub two_way: u8,
+}
+
+// The numbers of a make.
+#[derive(Clone, Copy)]
+pub struct Constants {
+    pub sum_bits: u32,
+    pub count_bits: u32,
+    pub fresh: Settings,
+    pub last_address: u8,
+    pub refresh: u8,
+    pub refresh_v: u8,
+}

@@ -2,19 +2,19 @@
 use crate::reply;
 use chip::chip::Chip;
 use chip::make::Make;
-use chip::pac193x::Pac193x;
-use chip::pac193x::Pac193xMake;
-use chip::pac194x::Pac194x;
-use chip::pac194x::Pac194xMake;
 use chip::refusal::Refusal;
 use chip::state::Codes;
 use lines::line;
 use lines::line::Line;
+use makes::pac193x::Pac193x;
+use makes::pac193x::Pac193xMake;
+use makes::pac194x::Pac194x;
+use makes::pac194x::Pac194xMake;
 use std::alloc::AllocError;
 use std::alloc::Global;
 
 #[derive(Drop)]
-pub enum Bench {
+pub(crate) enum Bench {
     Empty,
     Has193x(Chip<Pac193x>),
     Has194x(Chip<Pac194x>),
@@ -22,7 +22,7 @@ pub enum Bench {
 
 impl Bench {
     // What is printed for one line.
-    pub fn answer(&mut self, heap: Global, bytes: &[u8]) -> Result<String, AllocError> {
+    pub(crate) fn answer(&mut self, heap: Global, bytes: &[u8]) -> Result<String, AllocError> {
         let Ok(said) = line::parse(bytes) else {
             return reply::unreadable(heap);
         };

@@ -3,13 +3,17 @@ use chip::refusal::Refusal;
 use std::alloc::AllocError;
 use std::alloc::Global;
 
-pub fn unreadable(heap: Global) -> Result<String, AllocError> {
+pub(crate) fn unreadable(heap: Global) -> Result<String, AllocError> {
     let number = Refusal::Unreadable.number();
     format!(heap, "line,{number}")
 }
 
 // A line that was taken, or refused: 2 and 3 name the address and who refused.
-pub fn told(heap: Global, word: &str, result: Result<(), Refusal>) -> Result<String, AllocError> {
+pub(crate) fn told(
+    heap: Global,
+    word: &str,
+    result: Result<(), Refusal>,
+) -> Result<String, AllocError> {
     let Err(refusal) = result else {
         return format!(heap, "{word},0");
     };
@@ -24,7 +28,7 @@ pub fn told(heap: Global, word: &str, result: Result<(), Refusal>) -> Result<Str
 }
 
 // A line that was taken, with bytes.
-pub fn shown(heap: Global, word: &str, bytes: &[u8]) -> Result<String, AllocError> {
+pub(crate) fn shown(heap: Global, word: &str, bytes: &[u8]) -> Result<String, AllocError> {
     let mut text = format!(heap, "{word},0")?;
     for b in bytes {
         let field = format!(heap, ",{b}")?;

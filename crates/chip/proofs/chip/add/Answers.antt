@@ -13,6 +13,12 @@ use Rattle.chip.proofs.chip.add.Needs as need
 pub add-sum : need.add-sum
 add-sum g c = let v = c .value-of .ensures .bound in omega (arith, ints)
 
+pub in-range-requires : need.in-range-requires
+in-range-requires g c κs =
+    let bits = ap (λ x. x .«sum_bits») (c .constants-bits .ensures) in
+    let law = g .M·Make·met .lawful in
+    (omega (arith, law .some-bits), omega (arith, law .sums-fit))
+
 pub returns : need.returns
 returns g c =
     let m = g .M·Make .sheet in
@@ -27,10 +33,11 @@ returns g c =
     let v = c .value-of .ensures .bound in
     let whole : z ≡ c .value-of .result +ℤ stored = omega (arith, ints) in
     let sum = whole ∙ ap (λ x. x +ℤ stored) (c .value-of .ensures .value) in
-    let on = sym (c .if-in-mask .ensures tt ∙ ap (λ x. in-mask x i) (c .off .ensures)) in
-    let two-way = c .in-mask-two-way .ensures ∙ ap (λ x. in-mask x i) (c .two-way .ensures) in
+    let on = sym (c .if-in-mask .ensures tt ∙ ap (λ x. in-mask (x .off) i) (c .masks-masks .ensures)) in
+    let two-way = c .in-mask-two-way .ensures ∙ ap (λ x. in-mask (x .«two_way») i) (c .masks-masks .ensures) in
+    let bits = ap (λ x. x .«sum_bits») (c .constants-bits .ensures) in
     let product = toZ-ofZ w64 p f ∙ c .product-product .ensures in
     record {
-      after = on-adds m s i k ch _ _ stored z on (c .sum-bits-bits .ensures) two-way product sum _ (c .bits-of .ensures);
-      left = on-leaves m s i k ch _ _ stored z on (c .sum-bits-bits .ensures) two-way product sum _ (c .in-range .ensures);
+      after = on-adds m s i k ch _ _ stored z on bits two-way product sum _ (c .bits-of .ensures);
+      left = on-leaves m s i k ch _ _ stored z on bits two-way product sum _ (c .in-range .ensures);
     }

@@ -1,0 +1,4 @@
+mod Layouts
+pub mod Lawful193x
+pub mod Lawful194x
+pub mod Scales
