@@ -1,5 +1,6 @@
 #!/usr/bin/env python3
-"""A second model of the PAC193X and PAC194X chips and of the line console.
+"""A second model of the PAC193X and PAC194X chips, of the wire to them and of
+the line console.
 
 It reads console lines on standard input and prints the answer expected to
 each.  It is written from the rules alone, apart from the real program, so
@@ -7,6 +8,7 @@ that the two can be compared.  The rules stand beside the code that follows
 them.  Channels are numbered 0 to 3 here for the chip's channels 1 to 4.
 """
 
+import contextlib
 import copy
 import re
 import sys
@@ -22,16 +24,46 @@ LONGEST_LINE = 80  # bytes, the line feed not counted
 LONGEST_READ = 64  # bytes
 LARGEST_FIELD = 65_535
 LARGEST_BYTE = 255
+SCRIPT_PLACES = 256  # outcomes
+
+# Outcomes of a transaction on the wire.
+PASSES = 0
+REFUSED_BY_WIRE = 1
+BROKEN_BEFORE = 2
+BROKEN_AFTER = 3
+OUTCOMES = (PASSES, REFUSED_BY_WIRE, BROKEN_BEFORE, BROKEN_AFTER)
 
 # Numbers that a line can answer after its word.
 TAKEN = 0
 OUT_OF_LIMITS = 1
 NOT_ACKNOWLEDGED = 2
-BY_THE_CHIP = 2  # who refused, printed after the address
+BROKEN = 3
+FULL = 8
+
+# Who did not acknowledge or broke, printed after the address.
+BY_A_WIRE = 1
+BY_THE_CHIP = 2
+
+
+class OutOfLimits(Exception):
+    """A number the wire cannot use; nothing changes."""
+
+
+class ScriptFull(Exception):
+    """No place for another outcome; nothing changes."""
 
 
 class NotAcknowledged(Exception):
-    """The chip refuses a transaction; its state is as before."""
+    """A transaction is refused; the chip's state is as before."""
+
+    def __init__(self, by):
+        super().__init__(by)
+        self.by = by
+
+
+class Broken(Exception):
+    """A transaction breaks, always on a wire.  Nothing tells whether the
+    chip carried it out."""
 
 
 class Unreadable(Exception):
@@ -160,7 +192,7 @@ class Chip:
         pending settings active.  REFRESH then zeroes sums, count and flags;
         the latest codes and products stay."""
         if address not in (REFRESH, REFRESH_V):
-            raise NotAcknowledged
+            raise NotAcknowledged(BY_THE_CHIP)
         self.image = Image(copy.deepcopy(self.running), self.active)
         self.active = self.pending
         if address == REFRESH:
@@ -173,7 +205,7 @@ class Chip:
         """A write goes to a writable register with just its bytes, the
         highest first, and changes what the register shows at once."""
         if len(data) != self.writable.get(address):
-            raise NotAcknowledged
+            raise NotAcknowledged(BY_THE_CHIP)
         self.store(address, int.from_bytes(data, "big"))
 
     def read(self, address, length):
@@ -183,7 +215,7 @@ class Chip:
         not listed.  Addresses not listed take no bytes."""
         registers = self.registers()
         if address not in [listed for listed, _, _ in registers]:
-            raise NotAcknowledged
+            raise NotAcknowledged(BY_THE_CHIP)
         shown = b"".join(
             value.to_bytes(width, "big")
             for listed, width, value in registers
@@ -310,6 +342,68 @@ class Chip194X(Chip):
 MAKES = {193: Chip193X, 194: Chip194X}
 
 
+# ---------------------------------------------------------------- the wire
+
+
+class ScriptedWire:
+    """Carries transactions to a chip, each by an outcome from a script.  The
+    direct wire below it changes nothing and is left out here."""
+
+    def __init__(self, chip):
+        self.chip = chip
+        self.script = []  # every outcome ever added, the oldest first
+        self.taken = 0  # how many of them are taken
+
+    def add(self, outcome):
+        """The script has 256 places in all: an outcome keeps its place when
+        it is taken, and a refused addition uses none.  An unknown outcome is
+        refused as such also when the script is full."""
+        if outcome not in OUTCOMES:
+            raise OutOfLimits
+        if len(self.script) == SCRIPT_PLACES:
+            raise ScriptFull
+        self.script.append(outcome)
+
+    def next_outcome(self):
+        """The oldest outcome not yet taken.  With none left a transaction
+        passes, which uses no place."""
+        if self.taken == len(self.script):
+            return PASSES
+        self.taken += 1
+        return self.script[self.taken - 1]
+
+    def carry(self, transaction):
+        """Every transaction that comes here takes an outcome, also one that
+        the chip is going to refuse.
+
+        Passing, it gets what the chip answers.  Refused by the wire or broken
+        before, it never reaches the chip.  Broken after, the chip does as it
+        does with any transaction, and its answer is lost: a refusal too.
+        """
+        outcome = self.next_outcome()
+        if outcome == PASSES:
+            return transaction()
+        if outcome == REFUSED_BY_WIRE:
+            raise NotAcknowledged(BY_A_WIRE)
+        if outcome == BROKEN_AFTER:
+            with contextlib.suppress(NotAcknowledged):
+                transaction()
+        raise Broken
+
+    def send(self, address):
+        return self.carry(lambda: self.chip.send(address))
+
+    def write(self, address, data):
+        return self.carry(lambda: self.chip.write(address, data))
+
+    def read(self, address, length):
+        """A read of 0 bytes or of too many takes no outcome, whatever its
+        address."""
+        if not 1 <= length <= LONGEST_READ:
+            raise OutOfLimits
+        return self.carry(lambda: self.chip.read(address, length))
+
+
 # ------------------------------------------------------------- the console
 
 
@@ -347,13 +441,15 @@ class Console:
     """Answers a line with its word, 0 or a refusal's number, and fields."""
 
     def __init__(self):
-        self.chip = None  # until the first good kind line
+        self.chip = None  # both until the first good kind line
+        self.wire = None
         self.words = {  # word: (numbers of fields allowed, what it does)
             "cycle": ([8], self.cycle),
             "cycles": ([9], self.cycles),
             "send": ([1], self.send),
             "write": (range(1, 10), self.write),
             "read": ([2], self.read),
+            "fault": ([1], self.fault),
         }
 
     def answer(self, line):
@@ -365,11 +461,13 @@ class Console:
         return ",".join([word, *map(str, numbers)])
 
     def kind(self, fields):
-        """The first kind line that names a make brings a fresh chip.  A kind
-        line that names none is unreadable, and so is every later one."""
+        """The first kind line that names a make brings a fresh chip and a
+        wire with an empty script.  A kind line that names none is unreadable,
+        and so is every later one."""
         if self.chip is not None or len(fields) != 1 or fields[0] not in MAKES:
             raise Unreadable
         self.chip = MAKES[fields[0]]()
+        self.wire = ScriptedWire(self.chip)
         return [TAKEN]
 
     def act(self, word, fields):
@@ -382,6 +480,8 @@ class Console:
             raise Unreadable
         return action(*fields)
 
+    # Cycles do not go over the wire: they take no outcome and always arrive.
+
     def cycle(self, *codes):
         self.chip.cycles(1, pairs(codes))
         return [TAKEN]
@@ -390,30 +490,44 @@ class Console:
         self.chip.cycles(n, pairs(codes))
         return [TAKEN]
 
-    # In the three transactions the limits are tested before the chip is.
+    def fault(self, outcome):
+        try:
+            self.wire.add(outcome)
+        except OutOfLimits:
+            return [OUT_OF_LIMITS]
+        except ScriptFull:
+            return [FULL]
+        return [TAKEN]
+
+    # In the three transactions an address or byte that is too large never
+    # comes to the wire, and so takes no outcome.
 
     def send(self, address):
         if address > LARGEST_BYTE:
             return [OUT_OF_LIMITS]
-        return self.transaction(address, lambda: self.chip.send(address))
+        return self.transaction(address, lambda: self.wire.send(address))
 
     def write(self, address, *data):
         if address > LARGEST_BYTE or any(byte > LARGEST_BYTE for byte in data):
             return [OUT_OF_LIMITS]
-        return self.transaction(address, lambda: self.chip.write(address, bytes(data)))
+        return self.transaction(address, lambda: self.wire.write(address, bytes(data)))
 
     def read(self, address, length):
-        if address > LARGEST_BYTE or not 1 <= length <= LONGEST_READ:
+        if address > LARGEST_BYTE:
             return [OUT_OF_LIMITS]
-        return self.transaction(address, lambda: self.chip.read(address, length))
+        return self.transaction(address, lambda: self.wire.read(address, length))
 
     def transaction(self, address, attempt):
-        """0 and the bytes of a read, or the refusal, the address and the one
-        who refused."""
+        """0 and the bytes of a read; or 1 alone; or what went wrong, the
+        address and the one who did it."""
         try:
             reply = attempt()
-        except NotAcknowledged:
-            return [NOT_ACKNOWLEDGED, address, BY_THE_CHIP]
+        except OutOfLimits:
+            return [OUT_OF_LIMITS]
+        except NotAcknowledged as refusal:
+            return [NOT_ACKNOWLEDGED, address, refusal.by]
+        except Broken:
+            return [BROKEN, address, BY_A_WIRE]
         return [TAKEN, *(reply or b"")]
 
 

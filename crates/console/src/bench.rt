@@ -1,71 +1,68 @@
-// The bench: at first empty, then one chip of the kind that was asked for.
+// What is printed for a line, with a chip on the bench behind a scripted wire.
 use crate::reply;
-use chip::chip::Chip;
-use chip::make::Make;
 use chip::refusal::Refusal;
 use chip::state::Codes;
 use lines::line;
 use lines::line::Line;
-use makes::pac193x::Pac193x;
-use makes::pac193x::Pac193xMake;
-use makes::pac194x::Pac194x;
-use makes::pac194x::Pac194xMake;
 use std::alloc::AllocError;
 use std::alloc::Global;
+use wire::scripted::Scripted;
+use wire::scripted::ScriptedWire;
+use wire::wire::Wire;
 
-#[derive(Drop)]
-pub(crate) enum Bench {
-    Empty,
-    Has193x(Chip<Pac193x>),
-    Has194x(Chip<Pac194x>),
+// The kinds of chip.
+#[derive(Clone, Copy)]
+pub(crate) enum Kind {
+    Pac193x,
+    Pac194x,
 }
 
-impl Bench {
-    // What is printed for one line.
-    pub(crate) fn answer(&mut self, heap: Global, bytes: &[u8]) -> Result<String, AllocError> {
-        let Ok(said) = line::parse(bytes) else {
-            return reply::unreadable(heap);
-        };
-        match self {
-            Bench::Empty => self.open(heap, &said),
-            Bench::Has193x(chip) => obey(chip, heap, &said),
-            Bench::Has194x(chip) => obey(chip, heap, &said),
-        }
+// The kind that a line asks for, if it is a good `kind` line.
+pub(crate) fn kind_of(bytes: &[u8]) -> Option<Kind> {
+    let Ok(said) = line::parse(bytes) else {
+        return None;
+    };
+    if said.word.text != b"kind" {
+        return None;
     }
-
-    // Only a good `kind` line opens the bench.
-    fn open(&mut self, heap: Global, said: &Line) -> Result<String, AllocError> {
-        if said.word.text != b"kind" {
-            return reply::unreadable(heap);
-        }
-        match said.fields.as_slice() {
-            [193] => *self = Bench::Has193x(Chip::new()),
-            [194] => *self = Bench::Has194x(Chip::new()),
-            _ => return reply::unreadable(heap),
-        }
-        reply::told(heap, "kind", Ok(()))
+    match said.fields.as_slice() {
+        [193] => Some(Kind::Pac193x),
+        [194] => Some(Kind::Pac194x),
+        _ => None,
     }
 }
 
-// One line for a chip.
-fn obey<M: Make>(chip: &mut Chip<M>, heap: Global, said: &Line) -> Result<String, AllocError> {
+// One line for the chip on the bench.
+pub(crate) fn answer<W: Wire>(
+    wire: &mut Scripted<W>,
+    heap: Global,
+    bytes: &[u8],
+) -> Result<String, AllocError> {
+    let Ok(said) = line::parse(bytes) else {
+        return reply::unreadable(heap);
+    };
+    obey(wire, heap, &said)
+}
+
+fn obey<W: Wire>(wire: &mut Scripted<W>, heap: Global, said: &Line) -> Result<String, AllocError> {
     let fields = said.fields.as_slice();
     match said.word.text {
-        b"cycle" => cycles(chip, heap, "cycle", 1, fields),
+        b"cycle" => cycles(wire, heap, "cycle", 1, fields),
         b"cycles" => match fields {
-            [n, codes @ ..] => cycles(chip, heap, "cycles", *n, codes),
+            [n, codes @ ..] => cycles(wire, heap, "cycles", *n, codes),
             [] => reply::unreadable(heap),
         },
-        b"send" => send(chip, heap, fields),
-        b"write" => write(chip, heap, fields),
-        b"read" => read(chip, heap, fields),
+        b"fault" => fault(wire, heap, fields),
+        b"send" => send(wire, heap, fields),
+        b"write" => write(wire, heap, fields),
+        b"read" => read(wire, heap, fields),
         _ => reply::unreadable(heap),
     }
 }
 
 // The same codes in `n` cycles.
-fn cycles<M: Make>(
-    chip: &mut Chip<M>,
+fn cycles<W: Wire>(
+    wire: &mut W,
     heap: Global,
     word: &str,
     n: u16,
@@ -75,7 +72,7 @@ fn cycles<M: Make>(
         return reply::unreadable(heap);
     };
     for _ in 0..n {
-        chip.cycle(codes);
+        wire.cycle(codes);
     }
     reply::told(heap, word, Ok(()))
 }
@@ -113,25 +110,41 @@ fn byte(field: u16) -> Result<u8, Refusal> {
     }
 }
 
-fn send<M: Make>(chip: &mut Chip<M>, heap: Global, fields: &[u16]) -> Result<String, AllocError> {
+// One outcome more for the script.
+fn fault<W: Wire>(
+    wire: &mut Scripted<W>,
+    heap: Global,
+    fields: &[u16],
+) -> Result<String, AllocError> {
+    let [number] = fields else {
+        return reply::unreadable(heap);
+    };
+    let result = match byte(*number) {
+        Ok(number) => wire.add(number),
+        Err(e) => Err(e),
+    };
+    reply::told(heap, "fault", result)
+}
+
+fn send<W: Wire>(wire: &mut W, heap: Global, fields: &[u16]) -> Result<String, AllocError> {
     let [address] = fields else {
         return reply::unreadable(heap);
     };
     let result = match byte(*address) {
-        Ok(address) => chip.send(address),
+        Ok(address) => wire.send(address),
         Err(e) => Err(e),
     };
     reply::told(heap, "send", result)
 }
 
-fn write<M: Make>(chip: &mut Chip<M>, heap: Global, fields: &[u16]) -> Result<String, AllocError> {
+fn write<W: Wire>(wire: &mut W, heap: Global, fields: &[u16]) -> Result<String, AllocError> {
     let [address, values @ ..] = fields else {
         return reply::unreadable(heap);
     };
-    reply::told(heap, "write", write_all(chip, *address, values))
+    reply::told(heap, "write", write_all(wire, *address, values))
 }
 
-fn write_all<M: Make>(chip: &mut Chip<M>, address: u16, values: &[u16]) -> Result<(), Refusal> {
+fn write_all<W: Wire>(wire: &mut W, address: u16, values: &[u16]) -> Result<(), Refusal> {
     let address = byte(address)?;
     let mut bytes = [0u8; 8];
     let mut len = 0;
@@ -142,10 +155,10 @@ fn write_all<M: Make>(chip: &mut Chip<M>, address: u16, values: &[u16]) -> Resul
         bytes[len] = byte(*value)?;
         len += 1;
     }
-    chip.write(address, &bytes[0..len])
+    wire.write(address, &bytes[0..len])
 }
 
-fn read<M: Make>(chip: &mut Chip<M>, heap: Global, fields: &[u16]) -> Result<String, AllocError> {
+fn read<W: Wire>(wire: &mut W, heap: Global, fields: &[u16]) -> Result<String, AllocError> {
     let [address, length] = fields else {
         return reply::unreadable(heap);
     };
@@ -156,7 +169,7 @@ fn read<M: Make>(chip: &mut Chip<M>, heap: Global, fields: &[u16]) -> Result<Str
     }
     let bytes = &mut buffer[0..length];
     let result = match byte(*address) {
-        Ok(address) => chip.read(address, bytes),
+        Ok(address) => wire.read(address, bytes),
         Err(e) => Err(e),
     };
     match result {

@@ -1,15 +1,14 @@
--- A product times a byte fits 128 bits.
-use mathlib.Core.Path.{_≡_}
-use Prim.Native.Nat.{ℕ, zero, suc, _*_, _^_, _<_, _≤_}
+-- How large a product can be.
+use Prim.Native.Nat.{ℕ, zero, suc, _*_, _<_, _≤_}
 use native.Mathlib.Omega.{arith}
 use lib.IntN.{ℤ, pos, negsuc, negℤ, _*ℤ_}
 use lib.Signed.{mag}
 use Rattle.std.proofs.shelf.Bits.{mul-le}
 
-mag-negated : (n m : ℕ) → n < m → mag (negℤ (pos n)) < m
-mag-negated zero m h = h
-mag-negated (suc n) m h = omega arith
+mag-negated : (n : ℕ) → mag (negℤ (pos n)) ≤ n
+mag-negated zero = omega arith
+mag-negated (suc n) = omega arith
 
-pub scaled-small : (p : ℤ) (s : ℕ) → mag p < 2 ^ 63 → s < 256 → mag (p *ℤ pos s) < 2 ^ 127
-scaled-small (pos n) s h l = let b = mul-le n s (2 ^ 63) 256 (omega arith) (omega arith) in omega arith
-scaled-small (negsuc n) s h l = let b = mul-le (suc n) s (2 ^ 63) 256 (omega arith) (omega arith) in mag-negated (suc n * s) (2 ^ 127) (omega arith)
+pub scaled-at-most : (a b : ℕ) (p : ℤ) (s : ℕ) → mag p < a → s ≤ b → mag (p *ℤ pos s) ≤ a * b
+scaled-at-most a b (pos n) s h l = mul-le n s a b (omega arith) l
+scaled-at-most a b (negsuc n) s h l = let m = mul-le (suc n) s a b h l in let k = mag-negated (suc n * s) in omega arith

@@ -46,7 +46,7 @@ pub impl Make for Pac193x as Pac193xMake {
             return 0;
         }
         let sense = register::sense_value(two_way, codes.sense);
-        (codes.bus / 4) as i64 * sense.div_euclid(4) as i64
+        table::times_bus(codes.bus, sense.div_euclid(4))
     }
 
     fn masks(settings: Settings) -> Masks {

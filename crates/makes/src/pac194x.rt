@@ -55,7 +55,7 @@ pub impl Make for Pac194x as Pac194xMake {
             return 0;
         }
         let sense = register::sense_value(two_way, codes.sense);
-        (codes.bus / 4) as i64 * sense as i64
+        table::times_bus(codes.bus, sense)
     }
 
     fn masks(settings: Settings) -> Masks {

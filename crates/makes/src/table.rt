@@ -1,9 +1,17 @@
 // What the register tables of the PAC193X and the PAC194X have in common.
 ghost use mathlib.Core.Path.{_≡_};
+ghost use Prim.Native.Nat.{_/_};
 ghost use lib.IntN.{pos, _*ℤ_};
 ghost use Rattle.chip.specs.Registers.{bits-of};
 ghost use Rattle.makes.specs.Table.{image-shows, a-command};
 use chip::state::Image;
+
+// The bus code's upper 14 bits times a sense value.
+pub(crate) fn times_bus(bus: u16, sense: i32) -> i64
+    ensures { λ r. ⌜ r ≡ pos (bus / 4) *ℤ sense ⌝ }
+{
+    sense as i64 * (bus / 4) as i64
+}
 
 // A product times a scale, as the 32 bits of a power register.
 fn power(scale: u8, product: i64) -> u64

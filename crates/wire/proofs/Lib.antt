@@ -1,0 +1,4 @@
+pub mod Reactions
+pub mod Directs
+pub mod Scripts
+pub mod Scripteds
