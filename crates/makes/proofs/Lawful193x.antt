@@ -1,15 +1,15 @@
 -- The PAC193X keeps the laws.
-use Prim.Native.Nat.{_%_, _*_, _+_, _-_, _/_, _<_, _^_, _≤_, suc, zero, ℕ}
+use Prim.Native.Nat.{_%_, _*_, _+_, _-_, _/_, _<_, _^_, _≤_, ℕ}
 use lib.Dec.{eqb, leb}
-use lib.ListN.{getD, length}
+use lib.ListN.{length}
 use mathlib.Core.Bool.{Bool, _||_, false, true}
-use mathlib.Core.List.{List, [], _∷_, map}
+use mathlib.Core.List.{List, [], _∷_}
 use mathlib.Core.Path.{_≡_, ap, refl}
 use native.Mathlib.Omega.{arith}
 use Rattle.std.proofs.shelf.Tests.{le-leb, lt-leb}
 use Rattle.makes.proofs.Layouts.{and-three, bit-at-most, bit-told, by-channel, chip-with, codes-readable, four-of, offered-limits, one-sum, same-entry, same-wanted, six-bytes, three-bytes, two-bytes, unlisted}
 use Rattle.chip.specs.Chip.{channel, entry-of, reply, spoilt}
-use Rattle.chip.specs.Laws.{Every, Lawful, Means, Readable, Writable, replies, written}
+use Rattle.chip.specs.Laws.{Every, Lawful, Means, Writable, replies, written}
 use Rattle.chip.specs.Datasheet.{Entry, Wanted, meaning}
 use Rattle.makes.specs.Pac193x.{mask-193x, pac193x, rate-193x, width-193x}
 use Rattle.chip.specs.declared.state.Channel.{Channel}

@@ -1,16 +1,16 @@
 -- The PAC194X keeps the laws.
-use Prim.Native.Nat.{_%_, _*_, _+_, _-_, _/_, _<_, _^_, _≤_, suc, zero, ℕ}
+use Prim.Native.Nat.{_%_, _*_, _+_, _-_, _/_, _<_, _^_, _≤_, ℕ}
 use lib.Dec.{eqb, leb}
-use lib.ListN.{getD, length}
+use lib.ListN.{length}
 use mathlib.Core.Bool.{Bool, _||_, false, true}
-use mathlib.Core.List.{List, [], _∷_, map}
+use mathlib.Core.List.{List, [], _∷_}
 use mathlib.Core.Path.{_∙_, _≡_, ap, refl}
 use native.Mathlib.Omega.{arith}
 use Rattle.std.proofs.shelf.Tests.{le-leb, lt-leb}
 use Rattle.makes.proofs.Layouts.{and-three, bit-at-most, bit-told, by-channel, by-mask, chip-with, codes-readable, four-bytes, four-of, offered-limits, one-sum, same-entry, same-wanted, seven-bytes, two-bytes}
 use Rattle.makes.proofs.Layouts.{unlisted}
 use Rattle.chip.specs.Chip.{channel, entry-of, reply}
-use Rattle.chip.specs.Laws.{Every, Lawful, Means, Readable, Writable, replies, written}
+use Rattle.chip.specs.Laws.{Every, Lawful, Means, Writable, replies, written}
 use Rattle.chip.specs.Datasheet.{Entry, Wanted, meaning}
 use Rattle.makes.specs.Pac194x.{control-194x, off-194x, pac194x, polarity-194x, rate-194x, two-way-194x, width-194x}
 use Rattle.chip.specs.declared.state.Channel.{Channel}

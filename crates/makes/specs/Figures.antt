@@ -4,7 +4,6 @@ use mathlib.Core.Bool.{true, false}
 use mathlib.Core.List.{List, [], _∷_}
 use Prim.Native.Nat.{ℕ, _-_, _^_}
 use lib.IntN.{pos, negsuc}
-use Rattle.chip.specs.declared.state.Channel.{Channel}
 use Rattle.chip.specs.declared.state.Codes.{Codes}
 use Rattle.chip.specs.declared.state.State.{State}
 use Rattle.chip.specs.Chip.{cycled, latched, fresh-chip, idle, blank, channel}
