@@ -17,4 +17,3 @@ pub mod Spoils
 pub mod Named
 pub mod Books
 pub mod Reading
-pub mod Exact

@@ -2,6 +2,7 @@ pub mod Steps
 pub mod Dialogue
 pub mod History
 pub mod Book
+pub mod Bill
 pub mod Statements
 pub mod Calls
 pub mod Worked

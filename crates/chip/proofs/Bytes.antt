@@ -75,7 +75,3 @@ over_all xs ys i e = ⊎_elim short long (cases_lt (length xs) (length ys))
         let f : i ≡ length ys = omega arith in
         ap (λ k. take k xs ++ drop k ys) f
         ∙ ap (λ zs. take (length ys) xs ++ zs) (drop_all (length ys) ys (omega arith) ∙ sym (drop_all (length xs) ys h))
-
--- more bytes hold it too
-pub more_room : (v n k : ℕ) → v < 256 ^ n → n ≤ k → v < 256 ^ k
-more_room v n k below le = let top : 256 ^ n ≤ 256 ^ k = pow-le-pow_right (lit< tt) le in omega arith

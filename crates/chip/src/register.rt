@@ -2,11 +2,11 @@
 ghost use Rattle.std.specs.Prelude.{◌≡◌, ℕ, ◌+◌, ◌%◌, ◌^◌, ◌<◌, ◌≤◌, min, ◌++◌, length, take, drop, pos, ◌==◌, unsigned_abs};
 ghost use Rattle.chip.specs.Registers.{in_mask, value_of, in_range, bits_of, big_endian, number};
 
-// Bit 3 is channel 1, bit 0 channel 4; channels count from 0, and there are four.
-pub fn in_mask(mask: u8, channel: usize) -> bool
+pub(crate) fn in_mask(mask: u8, channel: usize) -> bool
+    requires { channel < 4 }
     ensures { result ≡ in_mask mask channel }
 {
-    (mask >> 3usize.saturating_sub(channel)) % 2 == 1
+    (mask >> (3 - channel)) % 2 == 1
 }
 
 // 2^bits, for registers of up to 64 bits.
@@ -18,13 +18,12 @@ pub(crate) fn size(bits: u32) -> i128
 }
 
 pub(crate) fn value_of(bits: u32, two_way: bool, register: u64) -> i128
-    requires { bits ≤ 64 }
+    requires { (0 < bits) × (bits ≤ 64) }
     ensures value { result ≡ value_of bits two_way register }
     ensures bound { unsigned_abs result < 2 ^ 65 }
-    ensures narrow { unsigned_abs result ≤ register + 2 ^ bits }
 {
     let plain = register as i128;
-    if two_way && plain >= size(bits.saturating_sub(1)) {
+    if two_way && plain >= size(bits - 1) {
         plain - size(bits)
     } else {
         plain
@@ -75,8 +74,7 @@ pub(crate) fn counted(bits: u32, count: u32) -> (u32, bool)
 // The number that some bytes write, the highest first.
 pub(crate) fn number_of(bytes: &[u8]) -> u64
     requires { length bytes.now ≤ 8 }
-    ensures value { result ≡ number bytes.now }
-    ensures bound { result < 256 ^ length bytes.now }
+    ensures { result ≡ number bytes.now }
 {
     let mut value: u64 = 0;
     for b in bytes {

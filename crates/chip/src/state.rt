@@ -1,5 +1,4 @@
-// What a chip holds, and the numbers of a make. The definitions in specs/ speak of these very types.
-use super::driver::Span;
+// What a chip holds. The definitions in specs/ speak of these very types.
 
 // The settings registers, as written. Each make says which bits mean what, and keeps the others.
 #[derive(Clone, Copy)]
@@ -64,27 +63,13 @@ pub struct Masks {
     pub two_way: u8,
 }
 
-// With a shunt u in tenths of a milliohm, weighed sums S are worth factor * S / (u * 2^power) millijoules.
-#[derive(Clone, Copy)]
-pub struct Tariff {
-    pub factor: u32,
-    pub power: u32,
-}
-
 // The numbers of a make.
 #[derive(Clone, Copy)]
 pub struct Constants {
-    pub channels: u8,
     pub sum_bits: u32,
     pub count_bits: u32,
     pub fresh: Settings,
     pub last_address: u8,
     pub refresh: u8,
     pub refresh_v: u8,
-    // where the mark in force and the image's polarity are read
-    pub mark: Span,
-    pub polarity: Span,
-    // the bus code's full scale in volts
-    pub volts: u8,
-    pub tariff: Tariff,
 }

@@ -1,7 +1,7 @@
 use Rattle.std.proofs.Common.{ap, ◌∙◌, arith, take_all}
 use Rattle.std.proofs.lemmas.Int.Digits.{number_more}
 use Rattle.std.specs.Int.Digits.{number_from_digits}
-use Rattle.chip.proofs.Bytes.{within, one_more, more_room, number_is}
+use Rattle.chip.proofs.Bytes.{within, one_more, number_is}
 use Rattle.chip.proofs.register.number_of.Goals as goal
 
 pub overflow-mul-value : goal.overflow-mul-value
@@ -17,9 +17,4 @@ loop-b-preserved c = (
 )
 
 pub returns : goal.returns
-returns c =
-    let all = take_all _ _ c.loop-b-test.false in
-    record {
-      value = c.loop-b.invariant.1 ∙ ap (number_from_digits 256) all ∙ number_is c.args.bytes.now;
-      bound = more_room _ c.loop-b.b-index _ c.loop-b.invariant.0 (omega arith);
-    }
+returns c = c.loop-b.invariant.1 ∙ ap (number_from_digits 256) (take_all _ _ c.loop-b-test.false) ∙ number_is c.args.bytes.now
