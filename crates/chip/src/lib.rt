@@ -1,4 +1,6 @@
 // What a make of power monitor is, and one chip over any make.
+#![tactic(auto)]
+
 pub mod chip;
 pub mod make;
 pub mod refusal;

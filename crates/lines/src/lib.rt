@@ -1,4 +1,5 @@
 // Lines of text: a word, then decimal fields parted by commas.
+#![tactic(auto)]
 pub mod input;
 pub mod line;
 pub mod numbers;
