@@ -1,5 +1,5 @@
 -- Registers hold what fits them, whatever a chip is asked.
-use Rattle.std.proofs.Common.{◌≡◌, ℕ, suc, ◌+◌, ◌^◌, ◌<◌, ◌≤◌, Bool, true, false, cond, eqb, ltb, List, [], ◌∷◌, map, length, ℤ, pos, ◌+ℤ◌, Some, None, Option, refl, ap, ◌∙◌, subst, mod-lt, mod-eq_of_lt, arith, pow_pos}
+use Rattle.std.proofs.Common.{◌≡◌, ℕ, suc, ◌+◌, ◌^◌, ◌<◌, ◌≤◌, Bool, true, false, cond, eqb, ltb, List, [], ◌∷◌, map, length, ℤ, pos, ◌+ℤ◌, Some, None, Option, refl, ap, ◌∙◌, subst, mod-lt, mod-eq_of_lt, pow_pos}
 use Rattle.std.proofs.lemmas.Bool.{cond_both}
 use Rattle.chip.specs.declared.state.Channel.{Channel}
 use Rattle.chip.specs.declared.state.Codes.{Codes}
@@ -7,8 +7,8 @@ use Rattle.chip.specs.declared.state.Held.{Held}
 use Rattle.chip.specs.declared.state.Running.{Running}
 use Rattle.chip.specs.declared.state.Settings.{Settings}
 use Rattle.chip.specs.declared.state.State.{State}
-use Rattle.chip.specs.Chip.{Request, Reaction, add_all, all_off, bad_length, cleared, cycled, does, fresh_chip, good_length, held, idle, latched, no_acknowledge, reacts, read}
-use Rattle.chip.specs.Chip.{refreshed, reply, send, takes, with_held, write, zeroed}
+use Rattle.chip.specs.Chip.{Request, Reaction, add_all, all_off, bad_length, cleared, cycled, does, good_length, held, idle, no_acknowledge, reacts, read}
+use Rattle.chip.specs.Chip.{send, takes, write, zeroed}
 use Rattle.chip.specs.Datasheet.{Datasheet}
 use Rattle.chip.specs.Laws.{EmptyFrom, Every, Lawful, Sound, SoundChip, StaysSound}
 use Rattle.chip.specs.Registers.{bits_of, in_mask, number, value_of}

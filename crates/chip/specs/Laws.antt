@@ -7,7 +7,7 @@ use Rattle.chip.specs.declared.state.Running.{Running}
 use Rattle.chip.specs.declared.state.Settings.{Settings}
 use Rattle.chip.specs.declared.state.State.{State}
 use Rattle.chip.specs.Chip.{Request, channel, cycled, does, entry_of, fresh_chip, reacts, reply}
-use Rattle.chip.specs.Datasheet.{Datasheet, Wanted, Entry, meaning}
+use Rattle.chip.specs.Datasheet.{Datasheet, Wanted, meaning}
 use Rattle.chip.specs.Registers.{number}
 
 abbrev pub Every : {A : Type 0} → (A → Type 0) → List A → Type 0

@@ -1,15 +1,15 @@
 use Rattle.std.proofs.Common.{◌≡◌, ◌+ℤ◌, sym, ap, ◌∙◌, arith, w64, SFits, to_z, of_z, rules}
 use mir.Syntax.{w128}
 use Rattle.std.proofs.lemmas.Int.{ints, to_z-of_z}
-use Rattle.chip.specs.Registers.{in_mask, value_of}
-use Rattle.chip.proofs.Cycles.{off_adds, off_leaves, on_adds, on_leaves}
+use Rattle.chip.specs.Registers.{in_mask}
+use Rattle.chip.proofs.Cycles.{on_adds, on_leaves}
 use Rattle.chip.proofs.chip.add.Goals as goal
 
-pub overflow-add-sum : goal.overflow-add-sum
-overflow-add-sum g c = let v = c.value-of.ensures.bound in omega (arith, ints)
+pub overflow_add-sum : goal.overflow_add-sum
+overflow_add-sum g c = let v = c.value_of.ensures.bound in omega (arith, ints)
 
-pub in-range-requires : goal.in-range-requires
-in-range-requires g c =
+pub in_range-requires : goal.in_range-requires
+in_range-requires g c =
     let bits = ap (λ x. x.sum_bits) c.constants-bits.ensures in
     let law = g.met.M.Make.lawful in
     (omega (arith, law.some_bits), omega (arith, law.sums_fit))
@@ -33,6 +33,6 @@ returns g c =
     let bits = ap (λ x. x.sum_bits) c.constants-bits.ensures in
     let product = to_z-of_z w64 p f ∙ c.product-product.ensures in
     record {
-      after = on_adds m s i k ch _ _ stored z on bits two_way product sum _ c.bits-of.ensures;
+      after = on_adds m s i k ch _ _ stored z on bits two_way product sum _ c.bits_of.ensures;
       left = on_leaves m s i k ch _ _ stored z on bits two_way product sum _ c.in_range.ensures;
     }

@@ -4,11 +4,11 @@ use Rattle.std.specs.Int.Digits.{number_from_digits}
 use Rattle.chip.proofs.Bytes.{within, one_more, number_is}
 use Rattle.chip.proofs.register.number_of.Goals as goal
 
-pub overflow-mul-value : goal.overflow-mul-value
-overflow-mul-value c = omega (arith, within _ _ (omega arith) c.loop-b.invariant.0)
+pub overflow_mul-value : goal.overflow_mul-value
+overflow_mul-value c = omega (arith, within _ _ (omega arith) c.loop-b.invariant.0)
 
-pub overflow-add-value : goal.overflow-add-value
-overflow-add-value c = omega (arith, within _ _ (omega arith) c.loop-b.invariant.0)
+pub overflow_add-value : goal.overflow_add-value
+overflow_add-value c = omega (arith, within _ _ (omega arith) c.loop-b.invariant.0)
 
 pub loop-b-preserved : goal.loop-b-preserved
 loop-b-preserved c = (

@@ -1,4 +1,4 @@
-use Rattle.std.proofs.Common.{◌≡◌, ◌-◌, ◌/◌, ◌%◌, ◌<◌, ◌++◌, length, take, drop, set, sym, ap, ◌∙◌, arith}
+use Rattle.std.proofs.Common.{◌-◌, ◌/◌, ◌%◌, ◌<◌, ◌++◌, length, take, drop, sym, ap, ◌∙◌, arith}
 use Rattle.chip.specs.Registers.{big_endian}
 use Rattle.chip.proofs.Bytes.{big_endian_at, big_endian_length, by_bytes, over_all, over_more}
 use Rattle.chip.proofs.register.put.Goals as goal

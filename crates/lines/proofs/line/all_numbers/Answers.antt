@@ -15,27 +15,27 @@ loop-token-preserved c =
       c.push.ensures.few,
       ap (λ l. joined (items c.push.new.self) (numbers (pieces_from l.now c.next.new.self.at))) t.same
           ∙ one_number_more c.loop-token.tokens.line.now c.loop-token.tokens.at (items c.loop-token.fields) _ c.loop-token.invariant.2 c.in-Some.token.text.now t.cases.0
-          t.cases.1 c.in-ok-n.n (items c.push.new.self) c.next.new.self.at c.in-ok-n.ensures c.in-ok-push.ensures.cases t.cases.3,
+          t.cases.1 c.in_ok-n.n (items c.push.new.self) c.next.new.self.at c.in_ok-n.ensures c.in_ok-push.ensures.cases t.cases.3,
     )
 
-pub returns-in-err-n : goal.returns-in-err-n
-returns-in-err-n c =
+pub returns-in_err-n : goal.returns-in_err-n
+returns-in_err-n c =
     let t = c.in-Some.ensures in
-    let p = err_from_is_err_and c.from-residual.result c.from-residual.ensures.1 in
+    let p = err_from_is_err_and c.from_residual.result c.from_residual.ensures.1 in
     rw (p.1, p.2) (not_a_number c.loop-token.tokens.line.now c.loop-token.tokens.at (items c.loop-token.fields) _ c.loop-token.invariant.2 c.in-Some.token.text.now
-    t.cases.0 t.cases.1 _ c.in-err-n.ensures)
+    t.cases.0 t.cases.1 _ c.in_err-n.ensures)
 
-pub returns-in-err-push : goal.returns-in-err-push
-returns-in-err-push c =
+pub returns-in_err-push : goal.returns-in_err-push
+returns-in_err-push c =
     let t = c.in-Some.ensures in
-    let u = c.in-err-push.ensures.cases in
-    let p = err_from_is_err_and c.from-residual-in-err-push.result c.from-residual-in-err-push.ensures.1 in
+    let u = c.in_err-push.ensures.cases in
+    let p = err_from_is_err_and c.from_residual-in_err-push.result c.from_residual-in_err-push.ensures.1 in
     rw (p.1, p.2) (
       u.0,
       one_too_many c.loop-token.tokens.line.now c.loop-token.tokens.at (items c.loop-token.fields) _ c.loop-token.invariant.2 c.in-Some.token.text.now t.cases.0
-          t.cases.1 c.in-ok-n.n c.in-ok-n.ensures u.2,
+          t.cases.1 c.in_ok-n.n c.in_ok-n.ensures u.2,
     )
 
 pub returns : goal.returns
 returns c =
-    at_the_end c.loop-token.tokens.line.now c.loop-token.tokens.at (items c.loop-token.fields) _ c.loop-token.invariant.2 c.in-default.ensures.cases c.loop-token.invariant.1
+    at_the_end c.loop-token.tokens.line.now c.loop-token.tokens.at (items c.loop-token.fields) _ c.loop-token.invariant.2 c.in_default.ensures.cases c.loop-token.invariant.1

@@ -33,5 +33,5 @@ pub returns : goal.returns
 returns c =
     let bs = c.args.token.text.now in
     let all = take_all _ bs c.loop-b-test.false in
-    let some = false-eqb _ 0 c.if-is-empty.ensures in
+    let some = false-eqb _ 0 c.if-is_empty.ensures in
     proper_is bs _ (c.loop-b.invariant.2 ∙ ap worth all) (omega arith) (omega arith) (subst (λ l. every is_digit l ≡ true) all c.loop-b.invariant.1) (omega arith)

@@ -4,8 +4,8 @@ use Rattle.std.proofs.lemmas.Int.{ints}
 use Rattle.makes.proofs.Scales.{scaled_at_most}
 use Rattle.makes.proofs.table.power.Goals as goal
 
-pub overflow-mul-product : goal.overflow-mul-product
-overflow-mul-product c =
+pub overflow_mul-product : goal.overflow_mul-product
+overflow_mul-product c =
     let p = c.args.product in
     let s = c.args.scale in
     let product : to_z w128 (of_z w128 (to_z w64 (of_z w64 p))) ≡ p = omega (arith, ints) in

@@ -4,8 +4,8 @@ use Rattle.std.proofs.lemmas.Int.{ints, to_z-of_z}
 use Rattle.makes.proofs.Scales.{scaled_at_most}
 use Rattle.makes.proofs.table.times_bus.Goals as goal
 
-pub overflow-mul-result : goal.overflow-mul-result
-overflow-mul-result c =
+pub overflow_mul-result : goal.overflow_mul-result
+overflow_mul-result c =
     let z = c.args.sense in
     let n = c.args.bus / 4 in
     let sense : to_z w64 (of_z w64 (to_z w32 (of_z w32 z))) ≡ z = omega (arith, ints) in
@@ -19,4 +19,4 @@ returns c =
     let n = c.args.bus / 4 in
     let sense : to_z w64 (of_z w64 (to_z w32 (of_z w32 z))) ≡ z = omega (arith, ints) in
     let bus : to_z w64 n ≡ pos n = omega (arith, ints) in
-    to_z-of_z w64 _ (overflow-mul-result c) ∙ ap₂ ◌*ℤ◌ sense bus ∙ *ℤ_comm z (pos n)
+    to_z-of_z w64 _ (overflow_mul-result c) ∙ ap₂ ◌*ℤ◌ sense bus ∙ *ℤ_comm z (pos n)
