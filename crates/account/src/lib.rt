@@ -23,7 +23,7 @@ pub fn every_call_keeps_its_word()
 
 // Steps over any wire are calls of a run, its cycles are the run's cycles, and a new meter begins one.
 pub fn wires_carry_runs<W: Wire>()
-    ensures { CarriesRuns Make-as-Make.sheet W.Wire.chip W.Wire.goes W.Wire.passes }
+    ensures { CarriesRuns W.Make.Make.sheet W.Wire.chip W.Wire.goes W.Wire.passes }
 {}
 
 // A booking fills the next free place and leaves every other.

@@ -1,5 +1,6 @@
 // Lines of text: a word, then decimal fields parted by commas.
 #![tactic(auto)]
+
 pub mod input;
 pub mod line;
 pub mod numbers;

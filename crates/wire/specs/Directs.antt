@@ -1,8 +1,8 @@
 -- The direct wire: what the chip answers is what the wire promises.
-use Rattle.std.specs.Prelude.{◌≡◌, ℕ, Bool, true, false, cond, List, [], length, is_err, Some, None, Ok, Err, Option, Result, ◌==◌, ◌≢◌, refl}
+use Rattle.std.specs.Prelude.{◌≡◌, ℕ, Bool, true, false, cond, List, [], length, is_err, Some, None, Option, Result, ◌==◌, ◌≢◌, refl}
 use Rattle.std.proofs.Common.{◌∙◌, ap, subst, sym, arith}
 use Rattle.chip.specs.declared.refusal.Refusal.{Refusal}
-use Rattle.chip.specs.declared.refusal.Refusal.TheVariants.{Limits, NotAcknowledged}
+use Rattle.chip.specs.declared.refusal.Refusal.TheVariants.{Limits}
 use Rattle.chip.specs.declared.refusal.Who.TheVariants.{Chip}
 use Rattle.chip.specs.declared.state.Held.{Held}
 use Rattle.chip.specs.declared.state.State.{State}
@@ -12,7 +12,7 @@ use Rattle.chip.specs.Chip.{takes, write}
 use Rattle.chip.specs.Datasheet.{Datasheet}
 use Rattle.chip.specs.Registers.{number}
 use Rattle.wire.specs.Direct.{DirectGoes, DirectPasses, direct_done, direct_refused}
-use Rattle.wire.specs.Wire.{Exact, Goes, IsWire, Passes, Reply, Transacted, Went, answered, broken, by_chip, denied, done, heard, heard_of, too_short_or_long, transacted}
+use Rattle.wire.specs.Wire.{Exact, Goes, IsWire, Passes, Reply, Transacted, Went, answered, by_chip, denied, done, heard, heard_of, too_short_or_long, transacted}
 use Rattle.wire.specs.Wire.{unacknowledged}
 use Rattle.wire.specs.Reactions.{good_so, not_done, read_leaves, same_does, sized_so, unsized_so}
 

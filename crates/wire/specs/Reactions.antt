@@ -1,11 +1,11 @@
 -- What a chip makes of a request, by the request's length and kind.
-use Rattle.std.specs.Prelude.{◌≡◌, ℕ, Bool, true, false, cond, List, [], length, Some, None, Option, ◌==◌, ◌≢◌, nat_lt, refl}
-use Rattle.std.proofs.Common.{⊎_elim, ◌∙◌, sym, arith}
+use Rattle.std.specs.Prelude.{◌≡◌, ℕ, Bool, true, false, cond, List, length, Some, None, Option, ◌==◌, ◌≢◌, nat_lt, refl}
+use Rattle.std.proofs.Common.{⊎_elim, arith}
 use Rattle.std.proofs.lemmas.Bool.{cases_Bool}
 use Rattle.chip.specs.declared.state.Held.{Held}
 use Rattle.chip.specs.declared.state.State.{State}
-use Rattle.chip.specs.Chip.{Reaction, Request, bad_length, does, good_length, held, latched, no_acknowledge, reacts, read, refreshed, reply, send, sized, state_after, takes}
-use Rattle.chip.specs.Chip.{with_held, write}
+use Rattle.chip.specs.Chip.{Reaction, Request, bad_length, does, good_length, held, no_acknowledge, reacts, read, reply, send, sized, state_after, takes}
+use Rattle.chip.specs.Chip.{write}
 use Rattle.chip.specs.Datasheet.{Datasheet}
 use Rattle.chip.specs.Registers.{number}
 

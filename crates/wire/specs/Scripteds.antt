@@ -13,7 +13,7 @@ use Rattle.wire.specs.declared.outcome.Outcome.TheVariants.{Pass, Refuse, Break,
 use Rattle.wire.specs.declared.scripted.Scripted.{Scripted}
 use Rattle.wire.specs.Scripted.{ScriptedGoes, ScriptedPasses, Scripting, breaks, drops, passes_on, refuses, seen, with_none_left}
 use Rattle.wire.specs.Scripts.{next, rest}
-use Rattle.wire.specs.Wire.{Exact, Goes, Heard, IsWire, Passes, Reply, Transacted, Went, answered, broke_after, broke_before, broken, by_chip, by_wire, denied, done, told}
+use Rattle.wire.specs.Wire.{Exact, Goes, Heard, IsWire, Passes, Reply, Transacted, Went, broke_after, broke_before, broken, by_chip, by_wire, denied, done, told}
 use Rattle.wire.specs.Wire.{too_short_or_long, transacted, unacknowledged}
 
 -- a reply that is dropped is broken, whatever it was

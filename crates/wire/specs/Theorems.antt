@@ -1,9 +1,8 @@
 -- The theorem that a function of the crate names in its contract.
-use Rattle.std.specs.Prelude.{List}
 use Rattle.chip.specs.Datasheet.{Datasheet}
 use Rattle.wire.specs.Direct.{DirectGoes}
-use Rattle.wire.specs.Scripted.{Scripting, ScriptedGoes}
-use Rattle.wire.specs.Wire.{Exact, Goes}
+use Rattle.wire.specs.Scripted.{ScriptedGoes}
+use Rattle.wire.specs.Wire.{Exact}
 
 -- a direct wire takes each request of good length in just one way, and a scripted wire does so on whatever wire does
 pub record WiresExact (m : Datasheet) : Type 0 where

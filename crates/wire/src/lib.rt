@@ -1,5 +1,6 @@
 // Wires to a chip: what every wire means, the direct wire, and the scripted wire over any wire.
 #![tactic(auto)]
+
 pub mod direct;
 pub mod outcome;
 pub mod script;

@@ -4,5 +4,5 @@ use Rattle.wire.proofs.theorems.wires_are_exact.Goals as goal
 
 pub returns : goal.returns
 returns g c =
-    let m = g.row.M-Make.sheet in
+    let m = g.M.Make.sheet in
     record { direct = direct_exact m; scripted = scripted_exact (direct_exact m); twice = scripted_exact (scripted_exact (direct_exact m)) }

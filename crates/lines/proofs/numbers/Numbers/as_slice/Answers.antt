@@ -1,4 +1,4 @@
-use Rattle.std.proofs.Common.{◌≡◌, ◌-◌, ◌≤◌, min, length, take, sym, ap, ◌∙◌, arith, rules}
+use Rattle.std.proofs.Common.{◌≡◌, ◌-◌, length, arith, rules}
 use Rattle.lines.proofs.Pieces.{take_whole}
 use Rattle.lines.proofs.numbers.Numbers.as_slice.Goals as goal
 

@@ -3,5 +3,5 @@ use Rattle.wire.proofs.direct.DirectWire.write.Goals as goal
 
 pub returns : goal.returns
 returns g c =
-    direct_writes g.row.M-Make.sheet (λ s. s.chip.state) c.args.self.now (record { chip = c.write.new.self }) c.write.result c.args.address c.args.bytes.now
+    direct_writes g.M.Make.sheet (λ s. s.chip.state) c.args.self.now (record { chip = c.write.new.self }) c.write.result c.args.address c.args.bytes.now
     c.write.ensures.answer c.write.ensures.after
