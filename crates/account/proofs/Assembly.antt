@@ -7,9 +7,8 @@ use Rattle.account.proofs.Keeping.{Kept, UpTo, Waiting, front}
 use Rattle.account.proofs.Runs.{run_ok}
 use Rattle.account.proofs.Serials.{serial_kept}
 use Rattle.account.proofs.Talks.{Standing, mk}
-use Rattle.chip.specs.Chip.{held}
 use Rattle.account.specs.Dialogue.{Condition, Meter, in_doubt, ready, slip_out, unfinished}
-use Rattle.account.specs.History.{Closed, Fate, History, Stretch, got_entry, settled, waits, was_lost, was_written_off, with_fate, written_off}
+use Rattle.account.specs.History.{Closed, Fate, History, Stretch, got_entry, waits, was_lost, was_written_off, with_fate}
 use Rattle.chip.specs.Laws.{Every, Lawful}
 use Rattle.chip.specs.Datasheet.{Entry, Datasheet, Wanted}
 use Rattle.chip.specs.declared.state.State.{State}

@@ -3,10 +3,9 @@ use Rattle.std.proofs.Common.{refl}
 use Rattle.makes.proofs.Figures.{figures}
 use Rattle.makes.specs.Figures.{on_one}
 use Rattle.account.specs.Dialogue.{Slip, book, draw, ended, stepped, write_off}
-use Rattle.account.specs.History.{called, chip_then, cycle_passed, made}
+use Rattle.account.specs.History.{called, cycle_passed, made}
 use Rattle.makes.specs.Pac193x.{pac193x}
 use Rattle.makes.specs.Pac194x.{pac194x}
-use Rattle.chip.specs.Registers.{number}
 use Rattle.account.specs.Steps.{at_rest, goes_on, onward, stays}
 use Rattle.wire.specs.Wire.{broke_after, broke_before, broken, done}
 use Rattle.wire.specs.Direct.{direct_done}

@@ -5,7 +5,6 @@ use Rattle.std.proofs.lemmas.Int.{ints}
 use Rattle.std.proofs.lemmas.Bool.{both_ways, cond_both}
 use Rattle.account.proofs.Keeping.{Kept, front}
 use Rattle.chip.specs.Chip.{entry_of}
-use Rattle.account.specs.Dialogue.{at}
 use Rattle.account.specs.History.{Account, Closed, Fate, History, Stretch, account, booked, carried_out, cycle_came, got_entry, is_refresh, left_range, overtaken, settled, sum_over, waits, was_lost, was_written_off, written_off}
 use Rattle.chip.specs.Laws.{Every}
 use Rattle.chip.specs.Datasheet.{Entry, Datasheet, Wanted}

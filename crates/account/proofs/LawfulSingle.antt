@@ -5,7 +5,6 @@ use Rattle.makes.specs.Layouts.{and_three, bit_at_most, bit_told, chip_with, fou
 use Rattle.chip.proofs.Ranges.{zero_value}
 use Rattle.account.proofs.Tracking.{four_of}
 use Rattle.chip.specs.Chip.{channel, entry_of, reply}
-use Rattle.account.specs.Dialogue.{at}
 use Rattle.chip.specs.Laws.{EmptyFrom, Every, Lawful, Means, Readable, Writable, replies, written}
 use Rattle.chip.specs.Datasheet.{Entry, Wanted, meaning}
 use Rattle.chip.specs.declared.state.Channel.{Channel}

@@ -6,7 +6,7 @@ use Rattle.account.proofs.Walks.{does_refresh, does_refresh_v, went_exactly, wen
 use Rattle.account.proofs.Ways.{All, Wq, all_cond, followed, map_all, walked_to, wq_by, wq_cond}
 use Rattle.account.specs.Bill.{Bill, WeightsMeant, bill_limits, bill_of, cycles_a_second, first_bad, no_bill, weight}
 use Rattle.chip.specs.Chip.{Request, address_of, held, latched, read, refreshed, reply, send, with_held, write}
-use Rattle.account.specs.Dialogue.{Answer, Call, Condition, Meter, Way, asks, asks_mark, at, bill_answer, bill_for, billed, bills, book, book_limits, closes, dialogue, draw, draws_at, entered, enters, fits_slip, gathers, given_up, handed, hands, if_numbers_left, in_doubt, look, look_limits, looked, looks_at, millivolts, or_fails, ready, refreshes, refused, sees, set_up, sets, slip_out, stored, unfinished, unlike, volts, write_off}
+use Rattle.account.specs.Dialogue.{Answer, Call, Condition, Meter, Way, asks, asks_mark, bill_answer, bill_for, billed, bills, book, book_limits, closes, dialogue, draw, draws_at, entered, enters, fits_slip, gathers, given_up, handed, hands, if_numbers_left, in_doubt, look, look_limits, looked, looks_at, millivolts, or_fails, ready, refreshes, refused, sees, set_up, sets, slip_out, stored, unfinished, unlike, volts, write_off}
 use Rattle.chip.specs.Laws.{Lawful, Means, written}
 use Rattle.chip.specs.Datasheet.{Entry, Datasheet, Wanted, meaning}
 use Rattle.chip.specs.declared.refusal.Refusal.{Refusal}

@@ -11,7 +11,6 @@ use Rattle.chip.specs.Laws.{Lawful}
 use Rattle.chip.specs.Datasheet.{Entry, Datasheet, Wanted}
 use Rattle.chip.specs.declared.state.State.{State}
 use Rattle.chip.specs.declared.state.Codes.{Codes}
-use Rattle.chip.specs.Registers.{number}
 
 module _ (m : Datasheet) (law : Lawful m) where
   cycle_ok : (places before : ℕ) (k : Condition) (last offs : ℕ) (w : Wanted) (b : Bool) (c : State) (es : List Entry) (h : History) (ks : List Codes) → length ks ≡ 4

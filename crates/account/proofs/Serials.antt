@@ -6,7 +6,6 @@ use Rattle.account.specs.Dialogue.{Answer, Call, Condition, Meter, Way, asks, as
 use Rattle.account.specs.History.{History, Reached, called, cycle_passed, made}
 use Rattle.chip.specs.Datasheet.{Entry, Datasheet}
 use Rattle.chip.specs.declared.state.State.{State}
-use Rattle.chip.specs.Registers.{number}
 use Rattle.account.specs.Steps.{Step}
 use Rattle.wire.specs.Wire.{answered, broken, unacknowledged}
 

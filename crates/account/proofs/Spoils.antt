@@ -18,7 +18,7 @@ use Rattle.makes.specs.Table.{bit}
 use Rattle.wire.specs.Wire.{done}
 use Rattle.account.specs.Steps.{goes_on, stays}
 use Rattle.account.specs.Worked.{SpoiltRun}
-use Rattle.makes.specs.Figures.{codes, on_one}
+use Rattle.makes.specs.Figures.{on_one}
 
 abbrev full : List Codes
 full = on_one 65535 65535

@@ -1,5 +1,5 @@
 -- The figures worked on the bench, and runs that show that the statements speak of something.
-use Rattle.std.specs.Prelude.{◌≡◌, ℕ, ◌+◌, ◌-◌, false, List, [], ◌∷◌, ◌++◌, length, ℤ, pos, negsuc}
+use Rattle.std.specs.Prelude.{◌≡◌, ℕ, false, List, [], ◌∷◌, ◌++◌, length, ℤ, pos, negsuc}
 use Rattle.chip.specs.declared.state.State.{State}
 use Rattle.chip.specs.Datasheet.{Datasheet, Entry}
 use Rattle.chip.specs.Chip.{cycled, fresh_chip, idle}

@@ -1,5 +1,6 @@
 // The theory of the meter: functions that do nothing, whose contracts are its theorems.
 #![tactic(auto)]
+
 ghost use Rattle.account.specs.Bill.{WeightsMeant};
 ghost use Rattle.account.specs.Book.{BooksKeep};
 ghost use Rattle.account.specs.Calls.{CarriesRuns};

@@ -1,6 +1,7 @@
 // Tests of both chips on examples. Expected bytes were worked out by an independent model (bench/model.py), other
 // figures by hand.
 #![tactic(auto)]
+
 #[cfg(test)]
 mod cycles;
 #[cfg(test)]

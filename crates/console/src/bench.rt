@@ -20,7 +20,7 @@ pub(crate) fn kind_of(bytes: &[u8]) -> Option<Kind> {
     let Ok(said) = line::parse(bytes) else {
         return None;
     };
-    if said.word.text != b"kind" {
+    if said.word.text != b"kind".as_slice() {
         return None;
     }
     match said.fields.as_slice() {

@@ -1,5 +1,6 @@
 // A bench client for the chips: raw transactions and conversion cycles, line by line from standard input.
 #![tactic(auto)]
+
 ghost use Rattle.std.specs.Prelude.{◌≤◌, length, IfOk};
 
 mod bench;

@@ -1,5 +1,6 @@
 // Tests of the wires on examples; expected answers are worked out by hand from the rules of the outcomes.
 #![tactic(auto)]
+
 #[cfg(test)]
 mod outcomes;
 #[cfg(test)]
