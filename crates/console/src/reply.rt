@@ -11,9 +11,9 @@ pub(crate) fn unreadable(heap: Global) -> Result<String, AllocError> {
 pub(crate) fn told(
     heap: Global,
     word: &str,
-    res: Result<(), Refusal>,
+    answer: Result<(), Refusal>,
 ) -> Result<String, AllocError> {
-    let Err(refusal) = res else {
+    let Err(refusal) = answer else {
         return format!(in heap; "{word},0");
     };
     let number = refusal.number();
