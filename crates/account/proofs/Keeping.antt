@@ -137,7 +137,7 @@ module _ (m : Datasheet) (places : ℕ) where
     }
 
     -- a REFRESH_V, where no settings are pending and nothing waits
-    pub keep_latched : (q : Request) (bs : List ℕ) → reacts m c q ≡ does (latched c) bs → is_refresh m q ≡ false → c.pending ≡ c.active → Kept before last offs w None c es h
+    pub keep_latched : (q : Request) (bs : List ℕ) → reacts m c q ≡ does (latched c) bs → is_refresh m q ≡ false → c.held.settings ≡ c.active → Kept before last offs w None c es h
         → Kept before last offs w None (latched c) es (carried_out q ∷ h)
     keep_latched q bs d no-refresh same k = record {
       xs = k.xs;
@@ -156,17 +156,17 @@ module _ (m : Datasheet) (places : ℕ) where
         → Kept before last offs w (Some k.o) (refreshed c) es (carried_out q ∷ h)
     keep_refreshed q bs d yes_refresh k = record {
       xs = k.xs;
-      o = record { opened_with = c.pending; moments = [] };
+      o = record { opened_with = c.held.settings; moments = [] };
       chip = carried_chip q c (refreshed c) bs h k.chip d;
       account_is =
           rw yes_refresh (ap₂ (closes_on m) k.account_is (sym (carried_chip q c (refreshed c) bs h k.chip d))
           ∙ ap (λ ys. record {
             closed = record { stretch = k.o; left = record { running = c.running; settings = c.active }; fate = waits } ∷ ys;
             open_stretch =
-                record { opened_with = c.pending; moments = [] };
+                record { opened_with = c.held.settings; moments = [] };
             strays = 0;
           }) (not_overtaken k.xs k.booked.fated));
-      opened = record { sound = zeroed_sound m c.running k.opened.sound; with = refl; steady = tt; tracks = zeroed_tracks m c.pending c.running };
+      opened = record { sound = zeroed_sound m c.running k.opened.sound; with = refl; steady = tt; tracks = zeroed_tracks m c.held.settings c.running };
       image_ok = k.opened.sound;
       waiting = λ n. tracks_match m c.active c.running k.o k.opened.with k.opened.steady k.opened.tracks n;
       wanted_ok = k.wanted_ok;

@@ -101,11 +101,11 @@ entry_read c n = single.entry_in (replies single c single.booking_reads) n
 no_sum : (b : Bool) (n : ℕ) → n ≡ 0 → pos 0 ≡ value_of 56 b n
 no_sum b n e = rw e (sym (zero_value 56 b))
 
-entry_ok : (p : Settings) (b : ℕ) (a : Settings) (r : Running) (cs : List Channel) (k : ℕ) (f g : Bool) (s : Settings) (n : ℕ) → length cs ≡ 4 → k < 2 ^ 32
-    → Every (λ c. c.sum < 2 ^ 56) cs → EmptyFrom 1 0 cs → entry_read (chip_with p b a r cs k f g s) n ≡ entry_of single (chip_with p b a r cs k f g s).image n
-entry_ok p b a r cs k f g s n l small below empty =
-    four_of (λ cs. Every (λ c. c.sum < 2 ^ 56) cs → EmptyFrom 1 0 cs → entry_read (chip_with p b a r cs k f g s) n ≡ entry_of single (chip_with p b a r cs k f g s).image n)
-    (λ w x y z h v. same_entry (entry_read (chip_with p b a r (w ∷ x ∷ y ∷ z ∷ []) k f g s) n) (entry_of single (chip_with p b a r (w ∷ x ∷ y ∷ z ∷ []) k f g s).image n)
+entry_ok : (p : Held) (a : Settings) (r : Running) (cs : List Channel) (k : ℕ) (f g : Bool) (s : Settings) (n : ℕ) → length cs ≡ 4 → k < 2 ^ 32
+    → Every (λ c. c.sum < 2 ^ 56) cs → EmptyFrom 1 0 cs → entry_read (chip_with p a r cs k f g s) n ≡ entry_of single (chip_with p a r cs k f g s).image n
+entry_ok p a r cs k f g s n l small below empty =
+    four_of (λ cs. Every (λ c. c.sum < 2 ^ 56) cs → EmptyFrom 1 0 cs → entry_read (chip_with p a r cs k f g s) n ≡ entry_of single (chip_with p a r cs k f g s).image n)
+    (λ w x y z h v. same_entry (entry_read (chip_with p a r (w ∷ x ∷ y ∷ z ∷ []) k f g s) n) (entry_of single (chip_with p a r (w ∷ x ∷ y ∷ z ∷ []) k f g s).image n)
     refl
     (flags_shown f g)
     (four_bytes k small)
@@ -154,7 +154,7 @@ lawful_single = record {
       ((omega arith, omega arith, omega arith, omega arith), ((omega arith, omega arith, omega arith, omega arith), ((omega arith, omega arith, omega arith, omega arith), tt))),
     ),
   );
-  entry_read = λ c n ok. entry_ok c.pending c.kept c.active c.running c.image.running.channels c.image.running.count c.image.running.sum_flag
+  entry_read = λ c n ok. entry_ok c.held c.active c.running c.image.running.channels c.image.running.count c.image.running.sum_flag
       c.image.running.count_flag c.image.settings n ok.four ok.count ok.sums ok.rest;
   code_readable = λ ch q l u v. code_listed ch q v;
   bus_read = λ c ch l u. only_one (λ ch. number (reply single c (single.code_at ch 0) 2) ≡ (channel (ch - 1) c.image.running).latest.bus % 65536)

@@ -5,7 +5,7 @@ use Rattle.std.proofs.lemmas.Bool.{and_parts, both_ways, cond_both, eqb-false, e
 use Rattle.account.proofs.Walks.{does_refresh, does_refresh_v, went_exactly, went_read, went_write}
 use Rattle.account.proofs.Ways.{All, Wq, all_cond, followed, map_all, walked_to, wq_by, wq_cond}
 use Rattle.account.specs.Bill.{Bill, WeightsMeant, bill_limits, bill_of, cycles_a_second, first_bad, no_bill, weight}
-use Rattle.chip.specs.Chip.{Request, address_of, held, latched, read, refreshed, reply, send, with_held, write}
+use Rattle.chip.specs.Chip.{Request, address_of, latched, read, refreshed, reply, send, with_held, write}
 use Rattle.account.specs.Dialogue.{Answer, Call, Condition, Meter, Way, asks, asks_mark, bill_answer, bill_for, billed, bills, book, book_limits, closes, dialogue, draw, draws_at, entered, enters, fits_slip, gathers, given_up, handed, hands, if_numbers_left, in_doubt, look, look_limits, looked, looks_at, millivolts, or_fails, ready, refreshes, refused, sees, set_up, sets, slip_out, stored, unfinished, unlike, volts, write_off}
 use Rattle.chip.specs.Laws.{Lawful, Means, written}
 use Rattle.chip.specs.Datasheet.{Entry, Datasheet, Wanted, meaning}
@@ -255,7 +255,7 @@ module _ (m : Datasheet) where
     never true e = absurd (both_ways false refl e)
     never false e = absurd (both_ways false refl e)
 
-    closes_obeys : (c : State) → meaning m c.pending ≡ t.wanted → Wq m Obeyed (closes m t) c
+    closes_obeys : (c : State) → meaning m c.held.settings ≡ t.wanted → Wq m Obeyed (closes m t) c
     closes_obeys c e = went_exactly m c (refreshed c) [] (does_refresh m c) (λ y. e) (λ w y. never (eqb m.refresh m.refresh) y) (λ y. never (eqb m.refresh m.refresh) y)
         (λ y. e)
 
@@ -263,16 +263,16 @@ module _ (m : Datasheet) where
         → o ≡ Some s → f ≡ true → Means m w b (written m ps s)
     on_next o f b w s ps q e g = rw (g, e) at q
 
-    sets_obeys : (b : Bool) (ps : List (ℕ × List ℕ)) (c : State) → Means m t.wanted b (written m ps (held c)) → Wq m Obeyed (sets m t ps) c
+    sets_obeys : (b : Bool) (ps : List (ℕ × List ℕ)) (c : State) → Means m t.wanted b (written m ps c.held) → Wq m Obeyed (sets m t ps) c
     sets_obeys b [] c q = closes_obeys c q.1
     sets_obeys b (p ∷ ps) c q = went_write m c
-        (λ s r kept len does_it. sets_obeys b ps (with_held c s) (on_next (m.keeps p.0 (number p.1) (held c)) (eqb (length p.1) (m.width p.0)) b
+        (λ s r kept len does_it. sets_obeys b ps (with_held c s) (on_next (m.keeps p.0 (number p.1) c.held) (eqb (length p.1) (m.width p.0)) b
         t.wanted s ps q kept len))
         (λ w y. absurd (both_ways false refl y)) (λ y. absurd (both_ways false refl y)) (λ s r does_it y. absurd (both_ways false refl y))
 
     module _ (law : Lawful m) (ok : m.offers t.wanted ≡ true) (c : State) where
       refreshes_obey : Wq m Obeyed (refreshes m t) c
-      refreshes_obey = sets_obeys (not t.mark) (m.settings_writes t.wanted (not t.mark)) c (law.written_means t.wanted ok (not t.mark) (held c))
+      refreshes_obey = sets_obeys (not t.mark) (m.settings_writes t.wanted (not t.mark)) c (law.written_means t.wanted ok (not t.mark) c.held)
 
       none_sent : {A : Type 0} → false ≡ true → A
       none_sent y = absurd (both_ways false refl y)

@@ -17,10 +17,10 @@ module _ (m : Datasheet) (law : Lawful m) where
       → Standing m law places before k last offs w b c es h → Standing m law places before k last offs w b (cycled m ks c) es (cycle_came ks ∷ h)
   cycle_ok places before k last offs w b c es h ks l = on k
     where
-      same : ((cycled m ks c).active ≡ c.active) × ((cycled m ks c).pending ≡ c.pending) × ((cycled m ks c).image ≡ c.image)
+      same : ((cycled m ks c).active ≡ c.active) × ((cycled m ks c).held.settings ≡ c.held.settings) × ((cycled m ks c).image ≡ c.image)
       same = cycled_keeps m c ks
 
-      settled_still : c.pending ≡ c.active → (cycled m ks c).pending ≡ (cycled m ks c).active
+      settled_still : c.held.settings ≡ c.active → (cycled m ks c).held.settings ≡ (cycled m ks c).active
       settled_still e = same.1 ∙ e ∙ sym same.0
 
       marked_still : {x : Bool} → m.mark c.active ≡ x → m.mark (cycled m ks c).active ≡ x

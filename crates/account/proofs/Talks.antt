@@ -4,7 +4,7 @@ use Rattle.std.proofs.lemmas.Bool.{and_parts, both_ways, cases_Bool, eq-eqb, eqb
 use Rattle.account.proofs.Keeping.{Kept, keep_booked, keep_latched, keep_pending, keep_refreshed, keep_written_off}
 use Rattle.account.proofs.Walks.{Wp, by_cond, does_refresh, does_refresh_v, went_exactly, went_read, went_write}
 use Rattle.account.specs.Bill.{Bill, bill, bill_of, no_bill}
-use Rattle.chip.specs.Chip.{does, entry_of, held, latched, reacts, read, refreshed, reply, send, with_held, write}
+use Rattle.chip.specs.Chip.{does, entry_of, latched, reacts, read, refreshed, reply, send, with_held, write}
 use Rattle.account.specs.Dialogue.{Answer, Call, Condition, Meter, Slip, Way, asks_mark, at, bill_answer, bill_for, book, book_limits, books, closes, dialogue, draw, draws, ends, entered, enters, gathers, hands, if_numbers_left, in_doubt, look, look_limits, looked, looks, millivolts, reads_at, ready, refreshes, sees, set_up, sets, sets_up, slip_out, unfinished, unlike, write_off, writes_off}
 use Rattle.account.specs.History.{History, Stretch, booked, carried_out, entries_after, happened_after, is_refresh, written_off}
 use Rattle.chip.specs.Laws.{Lawful, Means, replies, written}
@@ -24,12 +24,12 @@ told_other a b e = grind arith
 
 module _ (m : Datasheet) (law : Lawful m) (places before : ℕ) where
   abbrev pub Standing : Condition → ℕ → ℕ → Wanted → Bool → State → List Entry → History → Type 0
-  Standing ready last offs w b c es h = Kept m places before last offs w None c es h × (c.pending ≡ c.active) × (m.mark c.active ≡ b)
+  Standing ready last offs w b c es h = Kept m places before last offs w None c es h × (c.held.settings ≡ c.active) × (m.mark c.active ≡ b)
   Standing unfinished last offs w b c es h = Kept m places before last offs w None c es h × (m.mark c.active ≡ b)
   Standing in_doubt last offs w b c es h = (Kept m places before last offs w None c es h × (m.mark c.active ≡ b)) ⊎ ((s : Stretch)
-      × Kept m places before last offs w (Some s) c es h × (c.pending ≡ c.active) × (m.mark c.active ≡ not b))
+      × Kept m places before last offs w (Some s) c es h × (c.held.settings ≡ c.active) × (m.mark c.active ≡ not b))
   Standing (slip_out n) last offs w b c es h = (k : ℕ) × (s : Stretch) × (last ≡ k + 1) × (n ≡ last) × (last < 2 ^ 32) × Kept m places before k offs w (Some s) c es h
-      × (c.pending ≡ c.active) × (m.mark c.active ≡ b)
+      × (c.held.settings ≡ c.active) × (m.mark c.active ≡ b)
 
   abbrev pub Inv : Meter → State → List Entry → History → Type 0
   Inv t c es h = Standing t.condition t.last t.write_offs t.wanted t.mark c es h
@@ -39,7 +39,7 @@ module _ (m : Datasheet) (law : Lawful m) (places before : ℕ) where
 
   module _ (es : List Entry) where
     closes_ok : (t : Meter) (c : State) (h : History) → t.last + 1 < 2 ^ 32 → Kept m places before t.last t.write_offs t.wanted None c es h → m.mark c.active ≡ t.mark
-        → m.mark c.pending ≡ not t.mark → Wp m (Post es) (closes m t) c h
+        → m.mark c.held.settings ≡ not t.mark → Wp m (Post es) (closes m t) c h
     closes_ok t c h l k e p =
         let yes_refresh : is_refresh m (send m.refresh) ≡ true = eq-eqb m.refresh m.refresh refl in
         let k' = keep_refreshed m places (send m.refresh) [] (does_refresh m c) yes_refresh k in
@@ -54,22 +54,22 @@ module _ (m : Datasheet) (law : Lawful m) (places before : ℕ) where
     next o t b w s ps q e f = rw (f, e) at q
 
     sets_ok : (t : Meter) (ps : List (ℕ × List ℕ)) (c : State) (h : History) → t.last + 1 < 2 ^ 32 → Kept m places before t.last t.write_offs t.wanted None c es h
-        → m.mark c.active ≡ t.mark → Means m t.wanted (not t.mark) (written m ps (held c)) → Wp m (Post es) (sets m t ps) c h
+        → m.mark c.active ≡ t.mark → Means m t.wanted (not t.mark) (written m ps c.held) → Wp m (Post es) (sets m t ps) c h
     sets_ok t [] c h l k e q = closes_ok t c h l k e q.0
     sets_ok t (p ∷ ps) c h l k e q = went_write m c
         (λ s r kept len does_it. sets_ok t ps (with_held c s) (carried_out (write p.0 p.1) ∷ h) l (keep_pending m places None (write p.0 p.1) s r does_it refl k) e
-        (next (m.keeps p.0 (number p.1) (held c)) (eqb (length p.1) (m.width p.0)) (not t.mark) t.wanted s ps q kept len))
+        (next (m.keeps p.0 (number p.1) c.held) (eqb (length p.1) (m.width p.0)) (not t.mark) t.wanted s ps q kept len))
         (λ w. (k, e))
         (k, e)
         (λ s r does_it. (keep_pending m places None (write p.0 p.1) s r does_it refl k, e))
 
     refreshes_ok : (t : Meter) (c : State) (h : History) → t.last + 1 < 2 ^ 32 → Kept m places before t.last t.write_offs t.wanted None c es h
         → m.mark c.active ≡ t.mark → Wp m (Post es) (refreshes m t) c h
-    refreshes_ok t c h l k e = sets_ok t (m.settings_writes t.wanted (not t.mark)) c h l k e (law.written_means t.wanted k.wanted_ok (not t.mark) (held c))
+    refreshes_ok t c h l k e = sets_ok t (m.settings_writes t.wanted (not t.mark)) c h l k e (law.written_means t.wanted k.wanted_ok (not t.mark) c.held)
 
     keep_read : (u : Option Stretch) {last offs : ℕ} {w : Wanted} {c : State} {h : History} (a n : ℕ) → reacts m c (read a n) ≡ does c (reply m c a n)
         → Kept m places before last offs w u c es h → Kept m places before last offs w u c es (carried_out (read a n) ∷ h)
-    keep_read u {c = c} a n e k = keep_pending m places u (read a n) (held c) (reply m c a n) e refl k
+    keep_read u {c = c} a n e k = keep_pending m places u (read a n) c.held (reply m c a n) e refl k
 
     asks_ok : (number last : ℕ) (w : Wanted) (b : Bool) (offs : ℕ) (c : State) (h : History) → last + 1 < 2 ^ 32 → Inv (mk number last w b offs in_doubt) c es h
         → Wp m (Post es) (asks_mark m (mk number last w b offs in_doubt)) c h

@@ -235,6 +235,6 @@ module _ (m : Datasheet) (bits : 0 < m.sum_bits) where
         rest = add_all_empty law c.active 0 ks c.running.channels ok.rest;
       })
 
-pub cycled_keeps : (m : Datasheet) (c : State) (ks : List Codes) → ((cycled m ks c).active ≡ c.active) × ((cycled m ks c).pending ≡ c.pending) × ((cycled m ks c).image ≡ c.image)
-cycled_keeps m c ks = cond_both (all_off m c.active) c _ (λ x. (x.active ≡ c.active) × (x.pending ≡ c.pending) × (x.image ≡ c.image)) (λ e. (refl, refl, refl))
+pub cycled_keeps : (m : Datasheet) (c : State) (ks : List Codes) → ((cycled m ks c).active ≡ c.active) × ((cycled m ks c).held.settings ≡ c.held.settings) × ((cycled m ks c).image ≡ c.image)
+cycled_keeps m c ks = cond_both (all_off m c.active) c _ (λ x. (x.active ≡ c.active) × (x.held.settings ≡ c.held.settings) × (x.image ≡ c.image)) (λ e. (refl, refl, refl))
     (λ e. (refl, refl, refl))

@@ -1,7 +1,7 @@
 -- What a call has to show at each of its transactions, and what a transaction may come to.
 use Rattle.std.proofs.Common.{◌≡◌, ℕ, Bool, true, false, cond, eqb, ltb, List, [], ◌∷◌, length, Some, None, Option, sym, refl, ◌∙◌, subst, ap₂, arith}
 use Rattle.std.proofs.lemmas.Bool.{eq-eqb, ne_eqb}
-use Rattle.chip.specs.Chip.{Request, bad_length, does, good_length, held, latched, no_acknowledge, reacts, read, refreshed, reply, send, takes, with_held, write}
+use Rattle.chip.specs.Chip.{Request, bad_length, does, good_length, latched, no_acknowledge, reacts, read, refreshed, reply, send, takes, with_held, write}
 use Rattle.account.specs.Dialogue.{Dialogue, Follows, asks, ended, ends, stepped}
 use Rattle.account.specs.History.{History, carried_in, carried_out}
 use Rattle.chip.specs.Datasheet.{Datasheet}
@@ -94,12 +94,12 @@ module _ (m : Datasheet) (c : State) where
   writes_only a bs None e = absurd (not_done e)
   writes_only a bs (Some s) e = let p = takes_only (eqb (length bs) (m.width a)) s e in (s, refl, p.0, p.1)
 
-  pub went_write : {a : ℕ} {bs : List ℕ} {P : Bool → Reply → State → Type 0} → ((s : Held) (r : List ℕ) → m.keeps a (number bs) (held c) ≡ Some s → eqb (length bs) (m.width a)
+  pub went_write : {a : ℕ} {bs : List ℕ} {P : Bool → Reply → State → Type 0} → ((s : Held) (r : List ℕ) → m.keeps a (number bs) c.held ≡ Some s → eqb (length bs) (m.width a)
       ≡ true → reacts m c (write a bs) ≡ does (with_held c s) r → P true (answered r) (with_held c s)) → ((w : Who) → P false (unacknowledged w) c) → P false broken c
       → ((s : Held) (r : List ℕ) → reacts m c (write a bs) ≡ does (with_held c s) r → P true broken (with_held c s)) → Ways m c (write a bs) P
   went_write {a} {bs} {P} g k l x = went
-      (λ c' r e. let i = writes_only a bs (m.keeps a (number bs) (held c)) e in
+      (λ c' r e. let i = writes_only a bs (m.keeps a (number bs) c.held) e in
       subst (λ y. reacts m c (write a bs) ≡ does y r → P true (answered r) y) i.3 (λ e'. g i.0 r i.1 i.2 e') e)
       k l
-      (λ c' r e. let i = writes_only a bs (m.keeps a (number bs) (held c)) e in
+      (λ c' r e. let i = writes_only a bs (m.keeps a (number bs) c.held) e in
       subst (λ y. reacts m c (write a bs) ≡ does y r → P true broken y) i.3 (λ e'. x i.0 r e') e)

@@ -33,7 +33,7 @@ flags_single r = bit r.sum_flag * 8 + bit r.count_flag * 4
 
 abbrev pub shows_single : State → ℕ → ℕ
 shows_single c a =
-    cond (a == 0x01) c.pending.control
+    cond (a == 0x01) c.held.settings.control
     (cond (a == 0x02) c.image.running.count
     (cond (a == 0x03) (image_sum 0 c.image)
     (cond (a == 0x04) (image_bus 0 c.image)
@@ -42,21 +42,15 @@ shows_single c a =
     (cond (a == 0x0F) c.image.settings.control
     (cond (a == 0x10) c.image.settings.polarity
     (cond (a == 0x11) (flags_single c.image.running)
-    (cond (a == 0x13) c.pending.polarity
+    (cond (a == 0x13) c.held.settings.polarity
     (cond (a == 0x17) c.active.control
     (cond (a == 0x18) c.active.polarity
     0)))))))))))
 
 abbrev pub keeps_single : ℕ → ℕ → Held → Option Held
 keeps_single a n s =
-    cond (a == 0x01) (Some (record {
-      settings = record { control = n; channels = s.settings.channels; polarity = s.settings.polarity };
-      byte = s.byte;
-    }))
-    (cond (a == 0x13) (Some (record {
-      settings = record { control = s.settings.control; channels = s.settings.channels; polarity = n };
-      byte = s.byte;
-    }))
+    cond (a == 0x01) (Some (record s { settings = record s.settings { control = n } }))
+    (cond (a == 0x13) (Some (record s { settings = record s.settings { polarity = n } }))
     None)
 
 -- modes 2 to 5 in bits 15-12 are rate codes 0 to 3; the mark is bit 10; polarity has 01 in bits 3-2 for two-way

@@ -2,7 +2,7 @@
 use Rattle.std.specs.Prelude.{◌≡◌, ℕ, false, List, [], ◌∷◌, ◌++◌, length, ℤ, pos, negsuc}
 use Rattle.chip.specs.declared.state.State.{State}
 use Rattle.chip.specs.Datasheet.{Datasheet, Entry}
-use Rattle.chip.specs.Chip.{cycled, fresh_chip, idle}
+use Rattle.chip.specs.Chip.{cycled, fresh_chip, fresh_from}
 use Rattle.chip.specs.declared.refusal.Refusal.TheVariants.{Broken}
 use Rattle.account.specs.Steps.{Step, Along, Trip}
 use Rattle.wire.specs.Scripted.{Scripting, ScriptedGoes}
@@ -48,15 +48,7 @@ pub record LostReply : Type 0 where
 
 -- why a run begins at a fresh chip: where the mark in force is 1 already, a first REFRESH that broke and was not carried out is taken for carried out
 abbrev pub marked_chip : State
-marked_chip = record {
-  pending = record { control = 4; channels = 0; polarity = 0 };
-  kept = 0;
-  active =
-      record { control = 4; channels = 0; polarity = 0 };
-  running = idle;
-  image =
-      record { running = idle; settings = record { control = 4; channels = 0; polarity = 0 } };
-}
+marked_chip = fresh_from (record { control = 4; channels = 0; polarity = 0 })
 
 pub record WhyFresh : Type 0 where
   pub after_first : Meter

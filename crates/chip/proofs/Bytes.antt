@@ -1,64 +1,42 @@
 -- Numbers as bytes, the highest first.
-use Rattle.std.proofs.Common.{◌≡◌, ℕ, zero, suc, ◌+◌, ◌-◌, ◌*◌, ◌/◌, ◌%◌, ◌^◌, ◌<◌, ◌≤◌, min, List, [], ◌∷◌, ◌++◌, length, get_or, take, drop, set, sym, refl, ap, ◌∙◌, ⊎_elim, append_assoc, le_of_suc-le-suc, mul_assoc, add-mul, pow-suc, zero-mul, add-one, arith, lit<, pow-add}
-use native.Mathlib.Nat.{pow-succ', pow-le-pow_right}
-use Rattle.std.proofs.lemmas.List.{drop_all, drop_more, length-take-le, set_at, take_all, take_more}
+use Rattle.std.proofs.Common.{◌≡◌, ℕ, zero, suc, ◌+◌, ◌-◌, ◌/◌, ◌<◌, ◌≤◌, min, List, [], ◌∷◌, ◌++◌, length, take, drop, replicate, sym, refl, ap, ◌∙◌, ⊎_elim, append-nil, w64, arith}
+use Rattle.std.specs.Int.{from_be_bytes, to_be_bytes}
+use Rattle.std.proofs.lemmas.List.{drop_all, length-append, length-drop, length-replicate, take-replicate, take_all}
 use Rattle.std.proofs.lemmas.Bool.{cases_lt}
-use Rattle.std.specs.Int.Digits.{number_from_digits_after}
-use Rattle.std.specs.Int.Digits as digits
+use borrow.Rule.Slice.PartMut.{put_mid}
 use Rattle.chip.specs.Registers.{big_endian, number}
 
--- the shelf's number is ours
-numberAfter_is : (n : ℕ) (bs : List ℕ) → number_from_digits_after 256 n bs ≡ n * 256 ^ length bs + number bs
-numberAfter_is n [] = omega arith
-numberAfter_is n (b ∷ bs) =
-    numberAfter_is (n * 256 + b) bs
-    ∙ ap (λ x. x + number bs) (add-mul (n * 256) b (256 ^ length bs))
-    ∙ ap (λ x. x + b * 256 ^ length bs + number bs) (mul_assoc n 256 (256 ^ length bs) ∙ ap (λ x. n * x) (sym (pow-succ' 256 (length bs))))
-    ∙ omega arith
+eight_of : (P : List ℕ → Type 0) → ((a b c d e f g h : ℕ) → P (a ∷ b ∷ c ∷ d ∷ e ∷ f ∷ g ∷ h ∷ [])) → (xs : List ℕ) → length xs ≡ 8 → P xs
+eight_of P f [] e = absurd (omega arith)
+eight_of P f (a ∷ []) e = absurd (omega arith)
+eight_of P f (a ∷ b ∷ []) e = absurd (omega arith)
+eight_of P f (a ∷ b ∷ c ∷ []) e = absurd (omega arith)
+eight_of P f (a ∷ b ∷ c ∷ d ∷ []) e = absurd (omega arith)
+eight_of P f (a ∷ b ∷ c ∷ d ∷ x ∷ []) e = absurd (omega arith)
+eight_of P f (a ∷ b ∷ c ∷ d ∷ x ∷ y ∷ []) e = absurd (omega arith)
+eight_of P f (a ∷ b ∷ c ∷ d ∷ x ∷ y ∷ z ∷ []) e = absurd (omega arith)
+eight_of P f (a ∷ b ∷ c ∷ d ∷ x ∷ y ∷ z ∷ w ∷ []) e = f a b c d x y z w
+eight_of P f (a ∷ b ∷ c ∷ d ∷ x ∷ y ∷ z ∷ w ∷ v ∷ xs) e = absurd (omega arith)
 
-pub number_is : (bs : List ℕ) → digits.number_from_digits 256 bs ≡ number bs
-number_is bs = numberAfter_is 0 bs ∙ (let z = zero-mul (256 ^ length bs) in omega arith)
+-- the library's number of eight bytes is ours
+eight_is : (bs : List ℕ) → length bs ≡ 8 → from_be_bytes w64 bs ≡ number bs
+eight_is = eight_of (λ bs. from_be_bytes w64 bs ≡ number bs) (λ a b c d e f g h. omega arith)
 
-pub one_more : (i : ℕ) → 256 ^ (i + 1) ≡ 256 ^ i * 256
-one_more i = ap (λ k. 256 ^ k) (add-one i) ∙ pow-suc 256 i
+zeros_before : (k : ℕ) (bs : List ℕ) → number (replicate k 0 ++ bs) ≡ number bs
+zeros_before zero bs = refl
+zeros_before (suc k) bs = omega (arith, zeros_before k bs)
 
--- a byte more still fits eight bytes
-pub within : (i v : ℕ) → i < 8 → v < 256 ^ i → v * 256 + 255 < 2 ^ 64
-within i v h below =
-    let few : i + 1 ≤ 8 = omega arith in
-    let top : 256 ^ (i + 1) ≤ 256 ^ 8 = pow-le-pow_right (lit< tt) few in
-    omega (arith, one_more i)
+-- the library's bytes are ours
+eight_bytes : (n : ℕ) → to_be_bytes w64 n ≡ big_endian 8 n
+eight_bytes n = let e : n / 1 ≡ n = omega arith in rw e refl
 
--- a shift by whole bytes
-pub by_bytes : (k : ℕ) → 2 ^ (8 * k) ≡ 256 ^ k
-by_bytes zero = refl
-by_bytes (suc k) =
-    (let e : 8 * suc k ≡ 8 * k + 8 = omega arith in ap (λ x. 2 ^ x) e)
-    ∙ pow-add 2 (8 * k) 8
-    ∙ ap (λ x. x * 256) (by_bytes k)
-    ∙ sym (pow-suc 256 k)
+drop_big_endian : (k w n : ℕ) → drop k (big_endian (k + w) n) ≡ big_endian w n
+drop_big_endian zero w n = let e : 0 + w ≡ w = omega arith in rw e refl
+drop_big_endian (suc k) w n = let e : suc k + w ≡ suc (k + w) = omega arith in rw e (drop_big_endian k w n)
 
 pub big_endian_length : (w n : ℕ) → length (big_endian w n) ≡ w
 big_endian_length zero n = refl
 big_endian_length (suc w) n = ap suc (big_endian_length w n)
-
--- the byte at i
-pub big_endian_at : (w n i : ℕ) → i < w → get_or (big_endian w n) i 0 ≡ (n / 256 ^ (w - 1 - i)) % 256
-big_endian_at zero n i h = absurd (omega arith)
-big_endian_at (suc w) n zero h = let e : suc w - 1 - 0 ≡ w = omega arith in rw e refl
-big_endian_at (suc w) n (suc i) h =
-    let e : suc w - 1 - suc i ≡ w - 1 - i = omega arith in
-    rw e (big_endian_at w n i (le_of_suc-le-suc h))
-
--- one element more of xs over the start of ys
-pub over_more : (xs ys : List ℕ) (i v : ℕ) → i < length xs → i < length ys → v ≡ get_or xs i 0
-    → set (take i xs ++ drop i ys) i v ≡ take (i + 1) xs ++ drop (i + 1) ys
-over_more xs ys i v h k e =
-    ap (λ zs. set (take i xs ++ zs) i v) (drop_more ys i 0 k)
-    ∙ set_at (take i xs) (get_or ys i 0) (drop (i + 1) ys) v i (length-take-le i xs (omega arith))
-    ∙ ap (λ x. take i xs ++ x ∷ drop (i + 1) ys) e
-    ∙ sym (append_assoc (take i xs) (get_or xs i 0 ∷ []) (drop (i + 1) ys))
-    ∙ ap (λ zs. zs ++ drop (i + 1) ys) (sym (take_more xs i 0 h))
 
 -- all of xs over the start of ys, as far as ys goes
 pub over_all : (xs ys : List ℕ) (i : ℕ) → i ≡ min (length xs) (length ys) → take i xs ++ drop i ys ≡ take (length ys) xs ++ drop (length xs) ys
@@ -75,3 +53,28 @@ over_all xs ys i e = ⊎_elim short long (cases_lt (length xs) (length ys))
         let f : i ≡ length ys = omega arith in
         ap (λ k. take k xs ++ drop k ys) f
         ∙ ap (λ zs. take (length ys) xs ++ zs) (drop_all (length ys) ys (omega arith) ∙ sym (drop_all (length xs) ys h))
+
+-- the last w of a number's eight bytes, as many as there is room for, over the start of ys
+pub last_bytes : (w n count : ℕ) (ys : List ℕ) → w ≤ 8 → count ≡ min w (length ys)
+    → take (8 - w + count - (8 - w)) (drop (8 - w) (to_be_bytes w64 n)) ++ drop count ys ≡ take (length ys) (big_endian w n) ++ drop w ys
+last_bytes w n count ys h e =
+    let k : 8 - w + count - (8 - w) ≡ count = omega arith in
+    let eight : 8 ≡ 8 - w + w = omega arith in
+    let long = big_endian_length w n in
+    (λ j. take (k j) (drop (8 - w) ((eight_bytes n ∙ ap (λ x. big_endian x n) eight) j)) ++ drop count ys)
+    ∙ ap (λ xs. take count xs ++ drop count ys) (drop_big_endian (8 - w) w n)
+    ∙ over_all (big_endian w n) ys count (omega (arith, long, e))
+    ∙ ap (λ x. take (length ys) (big_endian w n) ++ drop x ys) long
+
+-- bytes put at the end of eight zeros write the same number
+pub padded : (bs xs : List ℕ) → length bs ≤ 8 → xs ≡ bs → from_be_bytes w64 (put_mid (8 - length bs) (8 - (8 - length bs)) (replicate {A = ℕ} 8 0) xs) ≡ number bs
+padded bs xs h e =
+    let a = 8 - length bs in
+    let z : take a (replicate {A = ℕ} 8 0) ≡ replicate {A = ℕ} a 0 = take-replicate a 8 0 (omega arith) in
+    let none : drop (8 - a) (drop a (replicate {A = ℕ} 8 0)) ≡ [] = drop_all (8 - a) (drop a (replicate {A = ℕ} 8 0)) (let l = length-drop a (replicate {A = ℕ} 8 0) in omega arith) in
+    let long = length-append (replicate {A = ℕ} a 0) bs in
+    let zeros = length-replicate {A = ℕ} a 0 in
+    (λ j. from_be_bytes w64 (z j ++ (e j ++ none j)))
+    ∙ ap (λ ys. from_be_bytes w64 (replicate {A = ℕ} a 0 ++ ys)) (append-nil bs)
+    ∙ eight_is (replicate {A = ℕ} a 0 ++ bs) (omega (arith, long, zeros))
+    ∙ zeros_before a bs

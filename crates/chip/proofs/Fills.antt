@@ -1,6 +1,7 @@
 -- A read's bytes, one register after the other.
 use Rattle.std.proofs.Common.{◌≡◌, ℕ, zero, suc, ◌+◌, ◌-◌, ◌<◌, ◌≤◌, min, ◌⊎◌, List, [], ◌∷◌, ◌++◌, length, take, drop, replicate, sym, refl, ap, ◌∙◌, inl, inr, append_assoc, append-nil, arith}
 use borrow.Rule.Slice.PartMut.{put_mid}
+use Rattle.std.proofs.Math.Seq.{take-nil}
 use Rattle.std.proofs.lemmas.List.{drop_all, length-append, length-drop, length-take, length-take-le, take_at, take-replicate}
 use Rattle.chip.specs.declared.state.State.{State}
 use Rattle.chip.specs.Chip.{reply, shown}
@@ -8,13 +9,9 @@ use Rattle.chip.specs.Datasheet.{Datasheet}
 use Rattle.chip.specs.Registers.{big_endian}
 use Rattle.chip.proofs.Bytes.{big_endian_length}
 
-take_none : (k : ℕ) → take {A = ℕ} k [] ≡ []
-take_none zero = refl
-take_none (suc k) = refl
-
 -- the front of two lists, joined
 take_join : (k : ℕ) (xs ys : List ℕ) → take k (xs ++ ys) ≡ take k xs ++ take (k - length xs) ys
-take_join k [] ys = let e : k - 0 ≡ k = omega arith in rw (e, take_none k) refl
+take_join k [] ys = let e : k - 0 ≡ k = omega arith in rw (e, take-nil k) refl
 take_join zero (x ∷ xs) ys = let e : 0 - suc (length xs) ≡ 0 = omega arith in rw e refl
 take_join (suc k) (x ∷ xs) ys = let e : suc k - suc (length xs) ≡ k - length xs = omega arith in rw e (ap (λ zs. x ∷ zs) (take_join k xs ys))
 

@@ -7,7 +7,7 @@ use Rattle.chip.specs.declared.state.Held.{Held}
 use Rattle.chip.specs.declared.state.Running.{Running}
 use Rattle.chip.specs.declared.state.Settings.{Settings}
 use Rattle.chip.specs.declared.state.State.{State}
-use Rattle.chip.specs.Chip.{Request, Reaction, add_all, all_off, bad_length, cleared, cycled, does, good_length, held, idle, no_acknowledge, reacts, read}
+use Rattle.chip.specs.Chip.{Request, Reaction, add_all, all_off, bad_length, cleared, cycled, does, good_length, idle, no_acknowledge, reacts, read}
 use Rattle.chip.specs.Chip.{send, takes, write, zeroed}
 use Rattle.chip.specs.Datasheet.{Datasheet}
 use Rattle.chip.specs.Laws.{EmptyFrom, Every, Lawful, Sound, SoundChip, StaysSound}
@@ -106,7 +106,7 @@ module _ (m : Datasheet) (c : State) (ok : SoundChip m c) where
 
   reacted : (q : Request) → Then (SoundChip m) (reacts m c q)
   reacted (read a n) = then_cond (SoundChip m) (good_length n) _ _ (then_cond (SoundChip m) (m.command a) _ _ tt (then_cond (SoundChip m) (ltb 0 (m.width a)) _ _ ok tt)) tt
-  reacted (write a bs) = taken a bs (m.keeps a (number bs) (held c))
+  reacted (write a bs) = taken a bs (m.keeps a (number bs) c.held)
   reacted (send a) =
       then_cond (SoundChip m) (eqb a m.refresh) _ _ (record { running = zeroed_sound m c.running ok.running; image = ok.running })
       (then_cond (SoundChip m) (eqb a m.refresh_v) _ _ (record { running = ok.running; image = ok.running }) tt)

@@ -44,47 +44,35 @@ module _ (m : Datasheet) (s : Settings) where
   any_leaves i (k ∷ ks) [] = false
   any_leaves i (k ∷ ks) (c ∷ cs) = leaves i k c || any_leaves (i + 1) ks cs
 
+-- a count after one cycle more, in a register of so many bits
+abbrev pub counted : (bits : ℕ) → Running → Running
+counted bits r = record r { count = (r.count + 1) % 2 ^ bits; count_flag = r.count_flag || (r.count + 1 == 2 ^ bits) }
+
+-- the running part after a cycle that finds a channel on
+abbrev pub ran : Datasheet → Settings → List Codes → Running → Running
+ran m s ks r = counted m.count_bits (record r {
+  channels = add_all m s 0 ks r.channels;
+  sum_flag = r.sum_flag || any_leaves m s 0 ks r.channels;
+})
+
 -- one cycle; with all four channels off it changes nothing
 abbrev pub cycled : Datasheet → List Codes → State → State
-cycled m ks c = cond (all_off m c.active) c (record {
-  pending = c.pending;
-  kept = c.kept;
-  active = c.active;
-  running = record {
-    channels = add_all m c.active 0 ks c.running.channels;
-    count = (c.running.count + 1) % 2 ^ m.count_bits;
-    sum_flag = c.running.sum_flag || any_leaves m c.active 0 ks c.running.channels;
-    count_flag = c.running.count_flag || (c.running.count + 1 == 2 ^ m.count_bits);
-  };
-  image = c.image;
-})
+cycled m ks c = cond (all_off m c.active) c (record c { running = ran m c.active ks c.running })
 
 -- sums, count and flags zeroed; latest codes and products stay
 abbrev pub cleared : Channel → Channel
-cleared c = record { latest = c.latest; product = c.product; sum = 0 }
+cleared c = record c { sum = 0 }
 
 abbrev pub zeroed : Running → Running
 zeroed r = record { channels = map cleared r.channels; count = 0; sum_flag = false; count_flag = false }
 
 -- REFRESH_V: the running part and the active settings are copied to the image, and the pending settings become active
 abbrev pub latched : State → State
-latched c = record {
-  pending = c.pending;
-  kept = c.kept;
-  active = c.pending;
-  running = c.running;
-  image = record { running = c.running; settings = c.active };
-}
+latched c = record c { active = c.held.settings; image = record { running = c.running; settings = c.active } }
 
 -- REFRESH: the same, and sums, count and flags are zeroed
 abbrev pub refreshed : State → State
-refreshed c = record {
-  pending = c.pending;
-  kept = c.kept;
-  active = c.pending;
-  running = zeroed c.running;
-  image = record { running = c.running; settings = c.active };
-}
+refreshed c = record (latched c) { running = zeroed c.running }
 
 abbrev pub blank : Channel
 blank = record { latest = record { bus = 0; sense = 0 }; product = pos 0; sum = 0 }
@@ -96,14 +84,17 @@ channel i r = slice_index_or r.channels i blank
 abbrev pub idle : Running
 idle = record { channels = replicate 4 blank; count = 0; sum_flag = false; count_flag = false }
 
-abbrev pub fresh_chip : Datasheet → State
-fresh_chip m = record {
-  pending = m.fresh;
-  kept = 0;
-  active = m.fresh;
+-- nothing counted yet, under these settings
+abbrev pub fresh_from : Settings → State
+fresh_from s = record {
+  held = record { settings = s; byte = 0 };
+  active = s;
   running = idle;
-  image = record { running = idle; settings = m.fresh };
+  image = record { running = idle; settings = s };
 }
+
+abbrev pub fresh_chip : Datasheet → State
+fresh_chip m = fresh_from m.fresh
 
 -- the bytes of so many addresses from one on
 abbrev pub shown : Datasheet → State → (addresses : ℕ) → (start : ℕ) → List ℕ
@@ -140,11 +131,8 @@ pub data Reaction : Type 0 where
   no_acknowledge : Reaction
   does : State → List ℕ → Reaction
 
-abbrev pub held : State → Held
-held c = record { settings = c.pending; byte = c.kept }
-
 abbrev pub with_held : State → Held → State
-with_held c s = record { pending = s.settings; kept = s.byte; active = c.active; running = c.running; image = c.image }
+with_held c h = record c { held = h }
 
 -- a write is taken with just the register's bytes
 abbrev pub takes : Datasheet → State → (address : ℕ) → List ℕ → Option Held → Reaction
@@ -155,7 +143,7 @@ takes m c a bs (Some s) = cond (length bs == m.width a) (does (with_held c s) []
 abbrev pub reacts : Datasheet → State → Request → Reaction
 reacts m c (read a n) =
     cond (good_length n) (cond (m.command a) no_acknowledge (cond (nat_lt 0 (m.width a)) (does c (reply m c a n)) no_acknowledge)) bad_length
-reacts m c (write a bs) = takes m c a bs (m.keeps a (number bs) (held c))
+reacts m c (write a bs) = takes m c a bs (m.keeps a (number bs) c.held)
 reacts m c (send a) = cond (a == m.refresh) (does (refreshed c) []) (cond (a == m.refresh_v) (does (latched c) []) no_acknowledge)
 
 -- what a caller of a chip hears of a request at an address

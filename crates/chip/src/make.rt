@@ -19,11 +19,11 @@ pub trait Make {
     fn product(channel: usize, two_way: bool, codes: Codes) -> i64
         ensures { result ≡ sheet.product channel two_way codes };
 
-    // How many bytes an address has; 0 where it is not listed.
+    // How many bytes an address has. A plain number: one that is not listed has none, and fills and writes go by the count.
     fn width(address: u8) -> usize
         ensures { result ≡ sheet.width address };
 
-    // The number that an address shows.
+    // The number that an address shows; one that shows none is read as 0, as the definition has it.
     fn shows(state: &State, address: u8) -> u64
         ensures { result ≡ sheet.shows state.now address };
 

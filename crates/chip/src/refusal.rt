@@ -1,15 +1,18 @@
 // The refusals of the whole house. One definition gives each case its number, and one each the values that it names.
 ghost use Rattle.std.specs.Prelude.{◌≡◌};
+ghost use Rattle.chip.specs.declared.refusal.Refusal.TheVariants.{Limits};
 ghost use Rattle.chip.specs.Refusals.{number_of, who_number, refused_by, at_address, at_place};
 
+use std::num::TryFromIntError;
+
 // Who refused a transaction.
-#[derive(Clone, Copy)]
+#[derive(Clone, Copy, Debug, PartialEq, Eq)]
 pub enum Who {
     Wire,
     Chip,
 }
 
-#[derive(Clone, Copy)]
+#[derive(Clone, Copy, Debug, PartialEq, Eq)]
 pub enum Refusal {
     // a number, read length, scratch or book outside its limits
     Limits,
@@ -36,6 +39,7 @@ pub enum Refusal {
 }
 
 impl Who {
+    // The number that is printed. A method, as `u8::from(who)` would not say which number it is.
     pub fn number(self) -> u8
         ensures { result ≡ who_number self }
     {
@@ -47,6 +51,7 @@ impl Who {
 }
 
 impl Refusal {
+    // The number that is printed. A method and no conversion, as a refusal tells more than that.
     pub fn number(self) -> u8
         ensures { result ≡ number_of self }
     {
@@ -92,5 +97,14 @@ impl Refusal {
             Refusal::BadEntry(place) => Some(place),
             _ => None,
         }
+    }
+}
+
+// A number that does not fit its type is outside its limits.
+impl From<TryFromIntError> for Refusal {
+    ghost from_gives = { λ _ r. r ≡ Limits };
+
+    fn from(_error: TryFromIntError) -> Refusal {
+        Refusal::Limits
     }
 }

@@ -1,4 +1,10 @@
-// What a chip holds. The definitions in specs/ speak of these very types.
+// What a chip holds, and what cycles and commands make of it. The definitions in specs/ speak of these very types.
+ghost use Rattle.std.specs.Prelude.{◌≡◌, ℕ, ◌<◌, ◌≤◌, map, length, ◌==◌};
+ghost use Rattle.chip.specs.Chip.{add_all, adds, any_leaves, cleared, counted, fresh_from, latched, leaves, ran, refreshed, zeroed};
+ghost use Rattle.chip.specs.Registers.{in_mask};
+
+use super::make::Make;
+use super::register::Format;
 
 // The settings registers, as written. Each make says which bits mean what, and keeps the others.
 #[derive(Clone, Copy)]
@@ -39,24 +45,23 @@ pub struct Image {
     pub settings: Settings,
 }
 
-#[derive(Clone, Copy)]
-pub struct State {
-    pub pending: Settings,
-    // a byte that a write changes at once, and that is copied nowhere
-    pub kept: u8,
-    pub active: Settings,
-    pub running: Running,
-    pub image: Image,
-}
-
-// What a write can change: the pending settings and the kept byte.
+// What a write can change: the pending settings, and a byte that is in force at once and copied nowhere.
 #[derive(Clone, Copy)]
 pub struct Held {
     pub settings: Settings,
     pub byte: u8,
 }
 
-// The channels that are off, and those that are two-way: bit 3 is channel 1, bit 0 channel 4.
+#[derive(Clone, Copy)]
+pub struct State {
+    pub held: Held,
+    pub active: Settings,
+    pub running: Running,
+    pub image: Image,
+}
+
+// The channels that are off, and those that are two-way: bit 3 is channel 1, bit 0 channel 4. Numbers, as the
+// registers hold and the formats print them.
 #[derive(Clone, Copy)]
 pub struct Masks {
     pub off: u8,
@@ -72,4 +77,155 @@ pub struct Constants {
     pub last_address: u8,
     pub refresh: u8,
     pub refresh_v: u8,
+}
+
+impl Masks {
+    pub(crate) fn all_off(self) -> bool
+        ensures { result ≡ (self.off == 15) }
+    {
+        self.off == 15
+    }
+
+    // Channels count from 0 here.
+    pub(crate) fn is_off(self, channel: usize) -> bool
+        ensures { result ≡ in_mask self.off channel }
+    {
+        has(self.off, channel)
+    }
+
+    pub(crate) fn is_two_way(self, channel: usize) -> bool
+        ensures { result ≡ in_mask self.two_way channel }
+    {
+        has(self.two_way, channel)
+    }
+}
+
+fn has(mask: u8, channel: usize) -> bool
+    ensures { result ≡ in_mask mask channel }
+{
+    (mask >> 3usize.saturating_sub(channel)) % 2 == 1
+}
+
+const BLANK: Channel = Channel {
+    latest: Codes { bus: 0, sense: 0 },
+    product: 0,
+    sum: 0,
+};
+
+const IDLE: Running = Running {
+    channels: [BLANK; 4],
+    count: 0,
+    sum_flag: false,
+    count_flag: false,
+};
+
+impl Channel {
+    // This channel's part of a cycle; answers whether its sum left the register's range.
+    fn add<M: Make>(&mut self, settings: Settings, i: usize, codes: Codes) -> bool
+        ensures after { self.new ≡ adds M.Make.sheet settings i codes self.old }
+        ensures left { result ≡ leaves M.Make.sheet settings i codes self.old }
+    {
+        let masks = M::masks(settings);
+        if masks.is_off(i) {
+            return false;
+        }
+        let two_way = masks.is_two_way(i);
+        let format = Format::new(M::constants().sum_bits, two_way);
+        let product = M::product(i, two_way, codes);
+        let sum = format.value(self.sum) + i128::from(product);
+        *self = Channel {
+            latest: codes,
+            product,
+            sum: format.bits_of(sum),
+        };
+        !format.contains(sum)
+    }
+}
+
+impl Running {
+    // A cycle that finds a channel on.
+    pub(crate) fn cycle<M: Make>(&mut self, settings: Settings, codes: &[Codes; 4])
+        ensures { self.new ≡ ran M.Make.sheet settings codes.now self.old }
+    {
+        self.sum_flag |= add_all::<M>(settings, codes, &mut self.channels);
+        self.count_up(M::constants().count_bits);
+    }
+
+    // One cycle more, in a register of so many bits.
+    fn count_up(&mut self, bits: u32)
+        requires { bits ≤ 32 }
+        ensures { self.new ≡ counted bits self.old }
+    {
+        let full = 1u64 << bits;
+        let next = self.count as u64 + 1;
+        self.count = (next % full) as u32;
+        self.count_flag |= next == full;
+    }
+
+    // Sums, count and flags zeroed; latest codes and products stay.
+    fn clear(&mut self)
+        ensures { self.new ≡ zeroed self.old }
+    {
+        clear_all(&mut self.channels);
+        self.count = 0;
+        self.sum_flag = false;
+        self.count_flag = false;
+    }
+}
+
+// All four channels' part of a cycle, each channel lent in turn; answers whether any sum left its range.
+fn add_all<M: Make>(settings: Settings, codes: &[Codes], channels: &mut [Channel]) -> bool
+    requires { (length codes.now ≡ 4) × (length channels.old ≡ 4) }
+    ensures after { channels.new ≡ add_all M.Make.sheet settings 0 codes.now channels.old }
+    ensures left { result ≡ any_leaves M.Make.sheet settings 0 codes.now channels.old }
+{
+    let mut left = false;
+    for (i, channel) in channels.iter_mut().enumerate() {
+        left |= channel.add::<M>(settings, i, codes[i]);
+    }
+    left
+}
+
+fn clear_all(channels: &mut [Channel])
+    ensures { channels.new ≡ map cleared channels.old }
+{
+    for channel in channels {
+        channel.sum = 0;
+    }
+}
+
+impl State {
+    // Nothing counted yet, under these settings.
+    pub(crate) fn fresh(settings: Settings) -> State
+        ensures { result ≡ fresh_from settings }
+    {
+        State {
+            held: Held { settings, byte: 0 },
+            active: settings,
+            running: IDLE,
+            image: Image {
+                running: IDLE,
+                settings,
+            },
+        }
+    }
+
+    // REFRESH_V.
+    pub(crate) fn latch(&mut self)
+        ensures { self.new ≡ latched self.old }
+    {
+        self.image = Image {
+            running: self.running,
+            settings: self.active,
+        };
+        self.active = self.held.settings;
+    }
+
+    // REFRESH.
+    pub(crate) fn refresh(&mut self)
+        ensures { self.new ≡ refreshed self.old }
+    {
+        self.latch();
+        self.running.clear();
+    }
 }

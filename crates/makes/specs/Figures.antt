@@ -18,8 +18,7 @@ on_one v s = codes v s ∷ codes 0 0 ∷ codes 0 0 ∷ codes 0 0 ∷ []
 -- a fresh chip but for channel 1's sum, the count and the active polarity
 abbrev pub chip_at : Datasheet → (polarity sum count : ℕ) → State
 chip_at m p s n = record {
-  pending = m.fresh;
-  kept = 0;
+  held = record { settings = m.fresh; byte = 0 };
   active = record { control = m.fresh.control; channels = 0; polarity = p };
   running = record {
     channels = record { latest = codes 0 0; product = pos 0; sum = s } ∷ blank ∷ blank ∷ blank ∷ [];

@@ -116,11 +116,11 @@ codes_listed a l u = grind arith
 abbrev entry_read : State → ℕ → Entry
 entry_read c n = pac194x.entry_in (replies pac194x c pac194x.booking_reads) n
 
-entry_ok : (p : Settings) (b : ℕ) (a : Settings) (r : Running) (cs : List Channel) (k : ℕ) (f g : Bool) (s : Settings) (n : ℕ) → length cs ≡ 4 → k < 2 ^ 32
-    → Every (λ c. c.sum < 2 ^ 56) cs → entry_read (chip_with p b a r cs k f g s) n ≡ entry_of pac194x (chip_with p b a r cs k f g s).image n
-entry_ok p b a r cs k f g s n l small below =
-    four_of (λ cs. Every (λ c. c.sum < 2 ^ 56) cs → entry_read (chip_with p b a r cs k f g s) n ≡ entry_of pac194x (chip_with p b a r cs k f g s).image n)
-    (λ w x y z h. same_entry (entry_read (chip_with p b a r (w ∷ x ∷ y ∷ z ∷ []) k f g s) n) (entry_of pac194x (chip_with p b a r (w ∷ x ∷ y ∷ z ∷ []) k f g s).image n)
+entry_ok : (p : Held) (a : Settings) (r : Running) (cs : List Channel) (k : ℕ) (f g : Bool) (s : Settings) (n : ℕ) → length cs ≡ 4 → k < 2 ^ 32
+    → Every (λ c. c.sum < 2 ^ 56) cs → entry_read (chip_with p a r cs k f g s) n ≡ entry_of pac194x (chip_with p a r cs k f g s).image n
+entry_ok p a r cs k f g s n l small below =
+    four_of (λ cs. Every (λ c. c.sum < 2 ^ 56) cs → entry_read (chip_with p a r cs k f g s) n ≡ entry_of pac194x (chip_with p a r cs k f g s).image n)
+    (λ w x y z h. same_entry (entry_read (chip_with p a r (w ∷ x ∷ y ∷ z ∷ []) k f g s) n) (entry_of pac194x (chip_with p a r (w ∷ x ∷ y ∷ z ∷ []) k f g s).image n)
     refl
     (flags_shown f g)
     (four_bytes k small)
@@ -158,7 +158,7 @@ lawful_194x = record {
   mark_readable = (omega arith, omega arith, omega arith, omega arith);
   mark_read = λ c. ap (λ n. nat_eq n 1) (mark_shown c.active.control);
   booking_readable = ((omega arith, omega arith, omega arith, omega arith), ((omega arith, omega arith, omega arith, omega arith), tt));
-  entry_read = λ c n ok. entry_ok c.pending c.kept c.active c.running c.image.running.channels c.image.running.count c.image.running.sum_flag
+  entry_read = λ c n ok. entry_ok c.held c.active c.running c.image.running.channels c.image.running.count c.image.running.sum_flag
       c.image.running.count_flag c.image.settings n ok.four ok.count ok.sums;
   code_readable = codes_readable pac194x codes_listed;
   bus_read = λ c ch l u. by_channel (λ ch. number (reply pac194x c (pac194x.code_at ch 0) 2) ≡ (channel (ch - 1) c.image.running).latest.bus % 65536)

@@ -4,6 +4,7 @@ use Rattle.std.proofs.Common.{⊎_elim, ap₂, div-add-mod', arith}
 use Rattle.std.proofs.lemmas.Bool.{and_parts, cases_Bool, eq-eqb, eqb-true, leb-true, ne_eqb}
 use Rattle.chip.specs.declared.state.Channel.{Channel}
 use Rattle.chip.specs.declared.state.Running.{Running}
+use Rattle.chip.specs.declared.state.Held.{Held}
 use Rattle.chip.specs.declared.state.Settings.{Settings}
 use Rattle.chip.specs.declared.state.State.{State}
 use Rattle.chip.specs.Datasheet.{Datasheet, Entry, Wanted}
@@ -108,10 +109,9 @@ same_entry e e' p q r s t u v = λ i. record { draw = p i; spoilt = q i; count =
 pub one_sum : (bits x y i k n : ℕ) → x ≡ y → k ≡ n → value_of bits (in_mask x i) k ≡ value_of bits (in_mask y i) n
 one_sum bits x y i k n e f = ap₂ (λ a b. value_of bits (in_mask a i) b) e f
 
-abbrev pub chip_with : Settings → ℕ → Settings → Running → List Channel → ℕ → Bool → Bool → Settings → State
-chip_with p b a r cs k f g s = record {
-  pending = p;
-  kept = b;
+abbrev pub chip_with : Held → Settings → Running → List Channel → ℕ → Bool → Bool → Settings → State
+chip_with h a r cs k f g s = record {
+  held = h;
   active = a;
   running = r;
   image =

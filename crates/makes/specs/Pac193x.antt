@@ -1,5 +1,5 @@
 -- The PAC193X.
-use Rattle.std.specs.Prelude.{ℕ, ◌+◌, ◌*◌, ◌/◌, ◌%◌, Bool, cond, ◌&&◌, List, [], ◌∷◌, take, ℤ, pos, ◌*ℤ◌, Some, None, Option, ◌==◌, nat_le, slice_index, slice_index_or}
+use Rattle.std.specs.Prelude.{ℕ, ◌+◌, ◌*◌, ◌/◌, ◌%◌, Bool, cond, ◌&&◌, List, [], ◌∷◌, take, ℤ, pos, Some, None, Option, ◌==◌, nat_le, slice_index, slice_index_or}
 use Rattle.std.specs.Int.{int_div_euclid}
 use Rattle.chip.specs.declared.state.Codes.{Codes}
 use Rattle.chip.specs.declared.state.Held.{Held}
@@ -8,11 +8,11 @@ use Rattle.chip.specs.declared.state.State.{State}
 use Rattle.chip.specs.Chip.{spoilt}
 use Rattle.chip.specs.Datasheet.{Datasheet, Entry}
 use Rattle.chip.specs.Registers.{value_of, number}
-use Rattle.makes.specs.Table.{image_shows, a_command, four_channel_offer, code_from_07h, bit, sums_in}
+use Rattle.makes.specs.Table.{image_shows, a_command, four_channel_offer, code_from_07h, bit, product, sums_in}
 
 -- floor(v/4) × floor(s/4), on four channels
 abbrev pub product_193x : (channel : ℕ) → (two_way : Bool) → Codes → ℤ
-product_193x i two_way k = cond (nat_le i 3) (pos (k.bus / 4) *ℤ int_div_euclid (value_of 16 two_way k.sense) (pos 4)) (pos 0)
+product_193x i two_way k = product i k.bus (int_div_euclid (value_of 16 two_way k.sense) (pos 4))
 
 -- bytes at each address; 0 is not listed
 abbrev pub width_193x : (address : ℕ) → ℕ
@@ -32,10 +32,10 @@ flagged control r = control / 2 * 2 + bit (spoilt r)
 
 abbrev pub shows_193x : State → (address : ℕ) → ℕ
 shows_193x c a =
-    cond (a == 0x01) c.pending.control
+    cond (a == 0x01) c.held.settings.control
     (cond (nat_le 0x02 a && nat_le a 0x1A) (image_shows 16 c.image a)
-    (cond (a == 0x1C) c.pending.channels
-    (cond (a == 0x1D) c.pending.polarity
+    (cond (a == 0x1C) c.held.settings.channels
+    (cond (a == 0x1D) c.held.settings.polarity
     (cond (a == 0x21) (flagged c.active.control c.running)
     (cond (a == 0x22) c.active.channels
     (cond (a == 0x23) c.active.polarity
@@ -47,18 +47,9 @@ shows_193x c a =
 -- registers of eight bits, so each keeps its lowest byte
 abbrev pub keeps_193x : (address number : ℕ) → Held → Option Held
 keeps_193x a n s =
-    cond (a == 0x01) (Some (record {
-      settings = record { control = n % 256; channels = s.settings.channels; polarity = s.settings.polarity };
-      byte = s.byte;
-    }))
-    (cond (a == 0x1C) (Some (record {
-      settings = record { control = s.settings.control; channels = n % 256; polarity = s.settings.polarity };
-      byte = s.byte;
-    }))
-    (cond (a == 0x1D) (Some (record {
-      settings = record { control = s.settings.control; channels = s.settings.channels; polarity = n % 256 };
-      byte = s.byte;
-    }))
+    cond (a == 0x01) (Some (record s { settings = record s.settings { control = n % 256 } }))
+    (cond (a == 0x1C) (Some (record s { settings = record s.settings { channels = n % 256 } }))
+    (cond (a == 0x1D) (Some (record s { settings = record s.settings { polarity = n % 256 } }))
     None))
 
 -- rate code in bits 7-6 and mark in bit 2 of control; masks in bits 7-4

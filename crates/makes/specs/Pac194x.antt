@@ -1,16 +1,16 @@
 -- The PAC194X.
-use Rattle.std.specs.Prelude.{ℕ, ◌+◌, ◌*◌, ◌/◌, ◌%◌, Bool, cond, ◌&&◌, List, [], ◌∷◌, take, drop, ℤ, pos, ◌*ℤ◌, Some, None, Option, ◌==◌, nat_le, slice_index, slice_index_or}
+use Rattle.std.specs.Prelude.{ℕ, ◌+◌, ◌*◌, ◌/◌, ◌%◌, Bool, cond, ◌&&◌, List, [], ◌∷◌, take, drop, ℤ, Some, None, Option, ◌==◌, nat_le, slice_index, slice_index_or}
 use Rattle.chip.specs.declared.state.Codes.{Codes}
 use Rattle.chip.specs.declared.state.Held.{Held}
 use Rattle.chip.specs.declared.state.Running.{Running}
 use Rattle.chip.specs.declared.state.State.{State}
 use Rattle.chip.specs.Datasheet.{Datasheet, Wanted, Entry}
 use Rattle.chip.specs.Registers.{value_of, number, big_endian}
-use Rattle.makes.specs.Table.{image_shows, a_command, four_channel_offer, code_from_07h, bit, sums_in}
+use Rattle.makes.specs.Table.{image_shows, a_command, four_channel_offer, code_from_07h, bit, product, sums_in}
 
 -- floor(v/4) × s, on four channels
 abbrev pub product_194x : (channel : ℕ) → (two_way : Bool) → Codes → ℤ
-product_194x i two_way k = cond (nat_le i 3) (pos (k.bus / 4) *ℤ value_of 16 two_way k.sense) (pos 0)
+product_194x i two_way k = product i k.bus (value_of 16 two_way k.sense)
 
 -- bytes at each address; 0 is not listed
 abbrev pub width_194x : (address : ℕ) → ℕ
@@ -33,10 +33,10 @@ flags_194x r = bit r.sum_flag * 8 + bit r.count_flag * 4
 
 abbrev pub shows_194x : State → (address : ℕ) → ℕ
 shows_194x c a =
-    cond (a == 0x01) c.pending.control
+    cond (a == 0x01) c.held.settings.control
     (cond (nat_le 0x02 a && nat_le a 0x1A) (image_shows 4 c.image a)
-    (cond (a == 0x1C) c.kept
-    (cond (a == 0x1D) c.pending.polarity
+    (cond (a == 0x1C) c.held.byte
+    (cond (a == 0x1D) c.held.settings.polarity
     (cond (a == 0x21) c.active.control
     (cond (a == 0x22) c.active.polarity
     (cond (a == 0x23) c.image.settings.control
@@ -48,15 +48,9 @@ shows_194x c a =
 -- control and polarity keep sixteen bits; 1Ch is a plain byte
 abbrev pub keeps_194x : (address number : ℕ) → Held → Option Held
 keeps_194x a n s =
-    cond (a == 0x01) (Some (record {
-      settings = record { control = n % 65536; channels = s.settings.channels; polarity = s.settings.polarity };
-      byte = s.byte;
-    }))
-    (cond (a == 0x1C) (Some (record { settings = s.settings; byte = n % 256 }))
-    (cond (a == 0x1D) (Some (record {
-      settings = record { control = s.settings.control; channels = s.settings.channels; polarity = n % 65536 };
-      byte = s.byte;
-    }))
+    cond (a == 0x01) (Some (record s { settings = record s.settings { control = n % 65536 } }))
+    (cond (a == 0x1C) (Some (record s { byte = n % 256 }))
+    (cond (a == 0x1D) (Some (record s { settings = record s.settings { polarity = n % 65536 } }))
     None))
 
 -- 4 + rate code in bits 15-12, mark in bit 10, off mask in bits 7-4 of control

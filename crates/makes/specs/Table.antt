@@ -1,9 +1,13 @@
 -- What the register tables of the PAC193X and the PAC194X have in common.
-use Rattle.std.specs.Prelude.{ℕ, ◌+◌, ◌-◌, ◌*◌, Bool, true, cond, ◌&&◌, List, [], ◌∷◌, take, drop, ℤ, pos, ◌*ℤ◌, ◌==◌, nat_le}
+use Rattle.std.specs.Prelude.{ℕ, ◌+◌, ◌-◌, ◌*◌, ◌/◌, Bool, true, cond, ◌&&◌, List, [], ◌∷◌, take, drop, ℤ, pos, ◌*ℤ◌, ◌==◌, nat_le}
 use Rattle.chip.specs.declared.state.Image.{Image}
 use Rattle.chip.specs.Chip.{channel}
 use Rattle.chip.specs.Datasheet.{Wanted}
 use Rattle.chip.specs.Registers.{in_mask, value_of, bits_of, number}
+
+-- the bus code's upper 14 bits times a sense value, on four channels
+abbrev pub product : (channel bus : ℕ) → (sense : ℤ) → ℤ
+product i bus sense = cond (nat_le i 3) (pos (bus / 4) *ℤ sense) (pos 0)
 
 -- the image's registers by channel, counted from 0
 abbrev pub image_sum : (i : ℕ) → Image → ℕ

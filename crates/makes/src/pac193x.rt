@@ -16,7 +16,7 @@ fn flagged(control: u16, running: &Running) -> u64
     ensures { result ≡ flagged control running.now }
 {
     let flag = running.sum_flag || running.count_flag;
-    (control / 2 * 2) as u64 + flag as u64
+    u64::from(control / 2 * 2) + u64::from(flag)
 }
 
 impl Make for Pac193x {
@@ -40,11 +40,8 @@ impl Make for Pac193x {
     }
 
     fn product(channel: usize, two_way: bool, codes: Codes) -> i64 {
-        if channel > 3 {
-            return 0;
-        }
         let sense = register::sense_value(two_way, codes.sense);
-        table::times_bus(codes.bus, sense.div_euclid(4))
+        table::product(channel, codes.bus, sense.div_euclid(4))
     }
 
     fn masks(settings: Settings) -> Masks {
@@ -69,23 +66,23 @@ impl Make for Pac193x {
 
     fn shows(state: &State, address: u8) -> u64 {
         let State {
-            pending,
+            held,
             active,
             running,
             image,
             ..
         } = state;
         match address {
-            0x01 => pending.control as u64,
+            0x01 => u64::from(held.settings.control),
             0x02..=0x1a => table::image_shows(16, image, address),
-            0x1c => pending.channels as u64,
-            0x1d => pending.polarity as u64,
+            0x1c => u64::from(held.settings.channels),
+            0x1d => u64::from(held.settings.polarity),
             0x21 => flagged(active.control, running),
-            0x22 => active.channels as u64,
-            0x23 => active.polarity as u64,
+            0x22 => u64::from(active.channels),
+            0x23 => u64::from(active.polarity),
             0x24 => flagged(image.settings.control, &image.running),
-            0x25 => image.settings.channels as u64,
-            0x26 => image.settings.polarity as u64,
+            0x25 => u64::from(image.settings.channels),
+            0x26 => u64::from(image.settings.polarity),
             _ => 0,
         }
     }

@@ -1,6 +1,6 @@
 // The PAC194X.
-ghost use Rattle.std.specs.Prelude.{◌≡◌, ◌<◌, ◌≤◌};
-ghost use Rattle.makes.specs.Pac194x.{pac194x, flags_194x, way_194x};
+ghost use Rattle.std.specs.Prelude.{◌≡◌, ◌/◌, ◌%◌, ◌<◌, ◌==◌};
+ghost use Rattle.makes.specs.Pac194x.{pac194x, flags_194x};
 ghost use Rattle.makes.specs.Lawful194x.{lawful_194x};
 
 use super::table;
@@ -15,16 +15,15 @@ pub struct Pac194x;
 fn flags(running: &Running) -> u64
     ensures { result ≡ flags_194x running.now }
 {
-    running.sum_flag as u64 * 8 + running.count_flag as u64 * 4
+    u64::from(running.sum_flag) * 8 + u64::from(running.count_flag) * 4
 }
 
 // A channel's two bits of polarity: 01 is two-way, the rest one-way.
-fn way(polarity: u16, place: u16) -> u8
+fn is_two_way(polarity: u16, place: u16) -> bool
     requires { 0 < place }
-    ensures value { result ≡ way_194x polarity place }
-    ensures upper_bound { result ≤ 1 }
+    ensures { result ≡ (polarity / place % 4 == 1) }
 {
-    (polarity / place % 4 == 1) as u8
+    polarity / place % 4 == 1
 }
 
 impl Make for Pac194x {
@@ -48,18 +47,15 @@ impl Make for Pac194x {
     }
 
     fn product(channel: usize, two_way: bool, codes: Codes) -> i64 {
-        if channel > 3 {
-            return 0;
-        }
         let sense = register::sense_value(two_way, codes.sense);
-        table::times_bus(codes.bus, sense)
+        table::product(channel, codes.bus, sense)
     }
 
     fn masks(settings: Settings) -> Masks {
-        let p = settings.polarity;
+        let way = |place| u8::from(is_two_way(settings.polarity, place));
         Masks {
             off: (settings.control / 16 % 16) as u8,
-            two_way: way(p, 16384) * 8 + way(p, 4096) * 4 + way(p, 1024) * 2 + way(p, 256),
+            two_way: way(16384) * 8 + way(4096) * 4 + way(1024) * 2 + way(256),
         }
     }
 
@@ -81,21 +77,20 @@ impl Make for Pac194x {
 
     fn shows(state: &State, address: u8) -> u64 {
         let State {
-            pending,
-            kept,
+            held,
             active,
             image,
             ..
         } = state;
         match address {
-            0x01 => pending.control as u64,
+            0x01 => u64::from(held.settings.control),
             0x02..=0x1a => table::image_shows(4, image, address),
-            0x1c => *kept as u64,
-            0x1d => pending.polarity as u64,
-            0x21 => active.control as u64,
-            0x22 => active.polarity as u64,
-            0x23 => image.settings.control as u64,
-            0x24 => image.settings.polarity as u64,
+            0x1c => u64::from(held.byte),
+            0x1d => u64::from(held.settings.polarity),
+            0x21 => u64::from(active.control),
+            0x22 => u64::from(active.polarity),
+            0x23 => u64::from(image.settings.control),
+            0x24 => u64::from(image.settings.polarity),
             0x25 => 0,
             0x26 => flags(&image.running),
             _ => 0,

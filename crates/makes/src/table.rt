@@ -1,22 +1,26 @@
 // What the register tables of the PAC193X and the PAC194X have in common.
 ghost use Rattle.std.specs.Prelude.{◌≡◌, ◌/◌, pos, ◌*ℤ◌};
 ghost use Rattle.chip.specs.Registers.{bits_of};
-ghost use Rattle.makes.specs.Table.{image_shows, a_command};
+ghost use Rattle.makes.specs.Table.{image_shows, a_command, product};
 
 use chip::state::Image;
 
-// The bus code's upper 14 bits times a sense value.
-pub(crate) fn times_bus(bus: u16, sense: i32) -> i64
-    ensures { result ≡ pos (bus / 4) *ℤ sense }
+// The bus code's upper 14 bits times a sense value, on four channels counted from 0.
+pub(crate) fn product(channel: usize, bus: u16, sense: i32) -> i64
+    ensures { result ≡ product channel bus sense }
 {
-    sense as i64 * (bus / 4) as i64
+    if channel < 4 {
+        i64::from(bus / 4) * i64::from(sense)
+    } else {
+        0
+    }
 }
 
 // A product times a scale, as the 32 bits of a power register.
 fn power(scale: u8, product: i64) -> u64
     ensures { result ≡ bits_of 32 (product *ℤ pos scale) }
 {
-    (product as i128 * scale as i128).rem_euclid(0x1_0000_0000) as u64
+    (i128::from(product) * i128::from(scale)).rem_euclid(0x1_0000_0000) as u64
 }
 
 // What 02h to 1Ah show of an image.
@@ -25,17 +29,17 @@ pub(crate) fn image_shows(scale: u8, image: &Image, address: u8) -> u64
 {
     let running = &image.running;
     match address {
-        0x00..=0x02 => running.count as u64,
-        0x03..=0x06 => running.channels[(address - 0x03) as usize].sum,
-        0x07..=0x0a => running.channels[(address - 0x07) as usize].latest.bus as u64,
-        0x0b..=0x0e => running.channels[(address - 0x0b) as usize].latest.sense as u64,
+        0x00..=0x02 => u64::from(running.count),
+        0x03..=0x06 => running.channels[usize::from(address - 0x03)].sum,
+        0x07..=0x0a => u64::from(running.channels[usize::from(address - 0x07)].latest.bus),
+        0x0b..=0x0e => u64::from(running.channels[usize::from(address - 0x0b)].latest.sense),
         0x0f..=0x16 => 0,
-        0x17..=0x1a => power(scale, running.channels[(address - 0x17) as usize].product),
+        0x17..=0x1a => power(scale, running.channels[usize::from(address - 0x17)].product),
         _ => 0,
     }
 }
 
-// 00h REFRESH, 1Eh, which is never taken, and 1Fh REFRESH_V.
+// 00h REFRESH, 1Eh, which is never taken, and 1Fh REFRESH_V. Each make names it: a body in the trait would serve every make.
 pub(crate) fn command(address: u8) -> bool
     ensures { result ≡ a_command address }
 {

@@ -1,7 +1,7 @@
 use Rattle.std.proofs.Common.{◌≡◌}
 use Rattle.chip.specs.Chip.{add_all, any_leaves}
 use Rattle.chip.proofs.Cycles.{so_far, left_so_far}
-use Rattle.chip.proofs.chip.add_all.Given as goal
+use Rattle.chip.proofs.state.add_all.Given as goal
 
 abbrev pub invariant-loop-i : goal.invariant-loop-i
 invariant-loop-i g l =
