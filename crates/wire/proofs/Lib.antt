@@ -1,1 +1,1 @@
-pub mod Scripts
+pub mod Plays

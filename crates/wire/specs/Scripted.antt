@@ -1,12 +1,14 @@
 -- The scripted wire over any wire.
-use Rattle.std.specs.Prelude.{◌≡◌, ℕ, Bool, false, List, [], ◌∷◌}
+use Rattle.std.specs.Prelude.{◌≡◌, ℕ, Bool, false, List, [], ◌∷◌, take, Ok, Err, Result}
+use Rattle.chip.specs.declared.refusal.Refusal.{Refusal}
+use Rattle.chip.specs.declared.refusal.Refusal.TheVariants.{NotAcknowledged, Broken}
 use Rattle.chip.specs.declared.refusal.Who.TheVariants.{Wire}
 use Rattle.chip.specs.Chip.{Request}
 use Rattle.wire.specs.declared.outcome.Outcome.{Outcome}
 use Rattle.wire.specs.declared.outcome.Outcome.TheVariants.{Pass, Refuse, Break, DropReply}
 use Rattle.wire.specs.declared.scripted.Scripted.{Scripted}
-use Rattle.wire.specs.Scripts.{left}
-use Rattle.wire.specs.Wire.{Goes, Passes, Reply, broken, unacknowledged}
+use Rattle.wire.specs.Scripts.{left, next, rest}
+use Rattle.wire.specs.Wire.{Goes, Heard, Passes, Reply, broken, denied, heard, unacknowledged}
 
 -- what a scripted wire is: the wire below, the outcomes not yet taken, the oldest first, and how many were ever added
 pub record Scripting (W : Type 0) : Type 0 where
@@ -37,3 +39,21 @@ ScriptedPasses passes u ks w = passes u.below ks w.below × (w.script ≡ u.scri
 
 abbrev pub unplayed : {W : Type 0} → W → Scripting W
 unplayed u = record { below = u; outcomes = []; added = 0 }
+
+-- what an outcome makes of a request at an address, where `asks` says what the wire below may answer and become
+abbrev pub Plays : {W R : Type 0} → (asks : W → Result R Refusal → W → Type 0) → (address : ℕ) → Outcome → W → Result R Refusal → W → Type 0
+Plays asks a Pass u r w = asks u r w
+Plays asks a Refuse u r w = (r ≡ Err (NotAcknowledged Wire a)) × (w ≡ u)
+Plays asks a Break u r w = (r ≡ Err (Broken a)) × (w ≡ u)
+Plays {R = R} asks a DropReply u r w = (r ≡ Err (Broken a)) × ((dropped : Result R Refusal) × asks u dropped w)
+
+-- the oldest outcome was played, and is taken
+pub record Played {W R : Type 0} (asks : W → Result R Refusal → W → Type 0) (address : ℕ) (u : Scripting W) (r : Result R Refusal) (w : Scripting W) : Type 0 where
+  pub oldest : Plays asks address (next u.outcomes) u.below r w.below
+  pub taken : w.outcomes ≡ rest u.outcomes
+  pub same : w.added ≡ u.added
+
+-- what the answer to a read of so many bytes tells
+abbrev pub heard_reply : ℕ → Result (List ℕ) Refusal → Heard
+heard_reply n (Ok bs) = heard (take n bs)
+heard_reply n (Err e) = denied e

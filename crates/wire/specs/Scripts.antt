@@ -31,5 +31,5 @@ abbrev pub adding : (number : ℕ) → (outcomes : List Outcome) → (added : �
 adding k os n =
     elim (outcome_of k) [ None ↦ (Err Limits, os, n) | Some o ↦ cond (nat_le 256 n) (Err Full, os, n) (Ok tt, os ++ o ∷ [], n + 1) ]
 
-abbrev pub added_to : (before : List Outcome) → (added number : ℕ) → Result Unit Refusal → (after : List Outcome) → (added_then : ℕ) → Type 0
-added_to os n k r os' n' = (r ≡ (adding k os n).0) × (os' ≡ (adding k os n).1) × (n' ≡ (adding k os n).2)
+abbrev pub added_to : Script → (number : ℕ) → Result Unit Refusal → Script → Type 0
+added_to s k r t = (r ≡ (adding k (left s) s.added).0) × (left t ≡ (adding k (left s) s.added).1) × (t.added ≡ (adding k (left s) s.added).2)

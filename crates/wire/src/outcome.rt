@@ -1,8 +1,11 @@
 // What a scripted wire does with one transaction.
-ghost use Rattle.std.specs.Prelude.{◌≡◌};
+ghost use Rattle.std.specs.Prelude.{◌≡◌, ok_or};
+ghost use Rattle.chip.specs.declared.refusal.Refusal.TheVariants.{Limits};
 ghost use Rattle.wire.specs.Scripts.{outcome_of};
 
-#[derive(Clone, Copy)]
+use chip::refusal::Refusal;
+
+#[derive(Clone, Copy, Debug, PartialEq, Eq)]
 pub enum Outcome {
     // 0: passed on
     Pass,
@@ -14,16 +17,18 @@ pub enum Outcome {
     DropReply,
 }
 
-impl Outcome {
-    pub fn of(number: u8) -> Option<Outcome>
-        ensures { result ≡ outcome_of number }
-    {
+impl TryFrom<u8> for Outcome {
+    type Error = Refusal;
+
+    ghost try_from_gives = { λ number r. r ≡ ok_or (outcome_of number) Limits };
+
+    fn try_from(number: u8) -> Result<Outcome, Refusal> {
         match number {
-            0 => Some(Outcome::Pass),
-            1 => Some(Outcome::Refuse),
-            2 => Some(Outcome::Break),
-            3 => Some(Outcome::DropReply),
-            _ => None,
+            0 => Ok(Outcome::Pass),
+            1 => Ok(Outcome::Refuse),
+            2 => Ok(Outcome::Break),
+            3 => Ok(Outcome::DropReply),
+            _ => Err(Refusal::Limits),
         }
     }
 }

@@ -1,12 +1,16 @@
 // A wire over any wire that fails as its script says.
-ghost use Rattle.std.specs.Prelude.{◌≡◌};
-ghost use Rattle.wire.specs.Scripted.{ScriptedGoes, ScriptedPasses, seen, unplayed};
+ghost use Rattle.std.specs.Fn.{FnOnceReturnsAtMut};
+ghost use Rattle.std.specs.Prelude.{◌≡◌, ◌≤◌};
+ghost use Rattle.chip.specs.Chip.{read};
+ghost use Rattle.wire.specs.Scripted.{Played, ScriptedGoes, ScriptedPasses, heard_reply, seen, unplayed};
 ghost use Rattle.wire.specs.Scripts.{added_to};
 ghost use Rattle.wire.specs.Scripteds.{scripted_is_wire};
+ghost use Rattle.wire.specs.Wire.{Transacted};
 
 use super::outcome::Outcome;
 use super::script::Script;
 use super::wire::Wire;
+use chip::chip::LONGEST_READ;
 use chip::refusal::{Refusal, Who};
 use chip::state::Codes;
 
@@ -30,9 +34,31 @@ impl<W> Scripted<W> {
     // Adds an outcome: 0 to 3, and 256 in all.
     pub fn add(&mut self, number: u8) -> Result<(), Refusal>
         ensures below { self.new.below ≡ self.old.below }
-        ensures added { added_to (seen self.old).outcomes (seen self.old).added number result (seen self.new).outcomes (seen self.new).added }
+        ensures added { added_to self.old.script number result self.new.script }
     {
         self.script.add(number)
+    }
+}
+
+impl<W: Wire> Scripted<W> {
+    // Takes the oldest outcome, which decides whether the wire below hears the request and the caller its answer.
+    fn play<R: Drop, F: FnOnce(&mut W) -> Result<R, Refusal>>(
+        &mut self,
+        address: u8,
+        request: F,
+    ) -> Result<R, Refusal>
+        requires { F.IsAlwaysCallable request }
+        ensures { Played (FnOnceReturnsAtMut F.FnOnce request) address (seen self.old) result (seen self.new) }
+    {
+        match self.script.take() {
+            Outcome::Pass => request(&mut self.below),
+            Outcome::Refuse => Err(Refusal::NotAcknowledged(Who::Wire, address)),
+            Outcome::Break => Err(Refusal::Broken(address)),
+            Outcome::DropReply => {
+                let _ = request(&mut self.below);
+                Err(Refusal::Broken(address))
+            }
+        }
     }
 }
 
@@ -52,42 +78,31 @@ impl<W: Wire> Wire for Scripted<W> {
     }
 
     fn read(&mut self, start: u8, bytes: &mut [u8]) -> Result<(), Refusal> {
-        if bytes.is_empty() || bytes.len() > 64 {
+        let length = bytes.len();
+        if !(1..=LONGEST_READ).contains(&length) {
             return Err(Refusal::Limits);
         }
-        match self.script.take() {
-            Outcome::Pass => self.below.read(start, bytes),
-            Outcome::Refuse => Err(Refusal::NotAcknowledged(Who::Wire, start)),
-            Outcome::Break => Err(Refusal::Broken(start)),
-            Outcome::DropReply => {
-                let mut dropped = [0u8; 64];
-                let _ = self.below.read(start, &mut dropped[0..bytes.len()]);
-                Err(Refusal::Broken(start))
-            }
-        }
+        // The reply has bytes of its own, which are the caller's only once they are answered.
+        let reply = self.play(
+            start,
+            |below: &mut W| -> Result<[u8; LONGEST_READ], Refusal>
+                requires { length ≤ LONGEST_READ }
+                ensures { Transacted W.Wire.goes below.old (read start length) (heard_reply length result) below.new }
+            {
+                let mut reply = [0; LONGEST_READ];
+                below.read(start, &mut reply[..length])?;
+                Ok(reply)
+            },
+        )?;
+        bytes.copy_from_slice(&reply[..length]);
+        Ok(())
     }
 
     fn write(&mut self, address: u8, bytes: &[u8]) -> Result<(), Refusal> {
-        match self.script.take() {
-            Outcome::Pass => self.below.write(address, bytes),
-            Outcome::Refuse => Err(Refusal::NotAcknowledged(Who::Wire, address)),
-            Outcome::Break => Err(Refusal::Broken(address)),
-            Outcome::DropReply => {
-                let _ = self.below.write(address, bytes);
-                Err(Refusal::Broken(address))
-            }
-        }
+        self.play(address, |below| below.write(address, bytes))
     }
 
     fn send(&mut self, command: u8) -> Result<(), Refusal> {
-        match self.script.take() {
-            Outcome::Pass => self.below.send(command),
-            Outcome::Refuse => Err(Refusal::NotAcknowledged(Who::Wire, command)),
-            Outcome::Break => Err(Refusal::Broken(command)),
-            Outcome::DropReply => {
-                let _ = self.below.send(command);
-                Err(Refusal::Broken(command))
-            }
-        }
+        self.play(command, |below| below.send(command))
     }
 }

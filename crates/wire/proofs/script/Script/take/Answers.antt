@@ -1,19 +1,10 @@
-use Rattle.std.proofs.Common.{◌≡◌, [], sym, refl, ap, ◌∙◌, arith}
-use Rattle.wire.proofs.Scripts.{first, others, none_left}
-use Rattle.wire.specs.Scripts.{left, next, rest}
+use Rattle.std.proofs.Common.{arith, length-take, sym, take}
+use Rattle.std.proofs.lemmas.List.{at_drop_more}
+use Rattle.wire.specs.declared.outcome.Outcome.TheVariants.{Pass}
+use Rattle.wire.specs.Scripts.{rest}
 use Rattle.wire.proofs.script.Script.take.Goals as goal
 
-pub returns-then-self : goal.returns-then-self
-returns-then-self c =
+pub returns-clause-after : goal.returns-clause-after
+returns-clause-after c =
     let s = c.args.self.now in
-    let none : left s ≡ [] = none_left s.outcomes s.taken s.added c.if-self.true in
-    record { value = sym (ap next none); after = none ∙ sym (ap rest none); same = refl }
-
-pub returns : goal.returns
-returns c =
-    let s = c.args.self.now in
-    record {
-      value = first s.outcomes s.taken s.added (omega arith) (omega arith);
-      after = others s.outcomes s.taken s.added (omega arith) (omega arith);
-      same = refl;
-    }
+    sym (at_drop_more rest (take s.added s.outcomes) s.taken Pass (simp length-take (omega arith)))

@@ -1,56 +1,28 @@
-use Rattle.std.proofs.Common.{length, sym, refl, ◌∙◌, subst, inl, inr, arith, eqb-true, false-eqb}
+use Rattle.std.proofs.Common.{arith, length, refl, rules}
+use Rattle.std.proofs.lemmas.Bool.Decides.{nat_tests}
+use Rattle.std.proofs.lemmas.Result.{err_from_is_err_and}
 use Rattle.chip.specs.Chip.{read}
-use Rattle.wire.specs.Scripted.{seen}
-use Rattle.wire.specs.Scripteds.{bad_read, broke, buffer_long, good_read, lost, passed, refused}
-use Rattle.wire.specs.Wire.{Transacted, heard_of, too_short_or_long}
+use Rattle.wire.proofs.Plays.{played}
+use Rattle.wire.specs.Scripted.{ScriptedGoes, heard_reply, seen}
+use Rattle.wire.specs.Wire.{Transacted, too_short_or_long}
+use Rattle.wire.proofs.scripted.ScriptedWire.read.Given.{Over}
 use Rattle.wire.proofs.scripted.ScriptedWire.read.Goals as goal
-use Rattle.wire.proofs.scripted.ScriptedWire.read.Goals.{then-is_empty-via-then-is_empty, then-is_empty-via-else-is_empty+then-bytes-gt64}
+use Rattle.wire.proofs.scripted.ScriptedWire.read.Goals.{After-play}
 
-pub returns-then-is_empty : goal.returns-then-is_empty
-returns-then-is_empty g c = record {
-  went = too_short_or_long (bad_read c.args.start (length c.args.bytes.now)
-      (elim c.then-is_empty.branch [
-        | then-is_empty-via-then-is_empty w ↦ inl (eqb-true _ 0 (sym c.is_empty.ensures ∙ w.if-is_empty.true))
-        | then-is_empty-via-else-is_empty+then-bytes-gt64 w ↦ inr w.if-bytes-gt64.true
-      ]));
-  kept = λ e. refl;
-}
+pub returns-then-not-contains-clause-went : goal.returns-then-not-contains-clause-went
+returns-then-not-contains-clause-went g c = too_short_or_long (grind (arith, nat_tests))
 
-pub returns-in-Pass : goal.returns-in-Pass
-returns-in-Pass g c =
-    let some = false-eqb _ 0 c.if-is_empty.ensures in
-    record {
-      went = passed g.W.Wire.goes seen c.args.self.now (record { below = c.read.new.self; script = c.take.new.self }) (read c.args.start (length c.args.bytes.now)) (good_read c.args.start (length c.args.bytes.now) (omega arith) (omega arith)) c.take.ensures.after c.take.ensures.same
-          (sym c.in-Pass.ensures.value) c.read.ensures.went;
-      kept = c.read.ensures.kept;
-    }
-
-pub returns-in-Refuse : goal.returns-in-Refuse
-returns-in-Refuse g c =
-    let some = false-eqb _ 0 c.if-is_empty.ensures in
-    record {
-      went = refused g.W.Wire.goes seen c.args.self.now (record { below = c.args.self.now.below; script = c.take.new.self }) (read c.args.start (length c.args.bytes.now)) (good_read c.args.start (length c.args.bytes.now) (omega arith) (omega arith)) c.take.ensures.after c.take.ensures.same
-          (sym c.in-Refuse.ensures.value) refl;
-      kept = λ e. refl;
-    }
-
-pub returns-in-Break : goal.returns-in-Break
-returns-in-Break g c =
-    let some = false-eqb _ 0 c.if-is_empty.ensures in
-    record {
-      went = broke g.W.Wire.goes seen c.args.self.now (record { below = c.args.self.now.below; script = c.take.new.self }) (read c.args.start (length c.args.bytes.now)) (good_read c.args.start (length c.args.bytes.now) (omega arith) (omega arith)) c.take.ensures.after c.take.ensures.same
-          (sym c.in-Break.ensures.value) refl;
-      kept = λ e. refl;
-    }
-
-pub returns-in-DropReply : goal.returns-in-DropReply
-returns-in-DropReply g c =
-    let some = false-eqb _ 0 c.if-is_empty.ensures in
+-- the reply that was played is what the promise is about
+replied : (g : Over) (c : After-play g) → Transacted (λ u q b r w. ScriptedGoes g.W.Wire.goes (seen u) q b r (seen w)) c.args.self.now (read c.args.start (length c.args.bytes.now))
+    (heard_reply (length c.args.bytes.now) c.play.result) c.play.new.self
+replied g c =
     let n = length c.args.bytes.now in
-    let below = subst (λ k. Transacted g.W.Wire.goes c.args.self.now.below (read c.args.start k) (heard_of c.read-in-DropReply.result c.read-in-DropReply.new.bytes) c.read-in-DropReply.new.self)
-    (buffer_long n (omega arith)) c.read-in-DropReply.ensures.went in
-    record {
-      went = lost g.W.Wire.goes seen c.args.self.now (record { below = c.read-in-DropReply.new.self; script = c.take.new.self }) (read c.args.start n)
-          (good_read c.args.start n (omega arith) (omega arith)) c.take.ensures.after c.take.ensures.same (sym c.in-DropReply.ensures.value) below;
-      kept = λ e. refl;
-    }
+    played g.W.Wire.goes (read c.args.start n) (grind (arith, nat_tests)) (heard_reply n) (λ e. refl) c.play.ensures (λ u w r d. search rules)
+
+pub returns-in_err-reply-clause-went : goal.returns-in_err-reply-clause-went
+returns-in_err-reply-clause-went g c =
+    let p = err_from_is_err_and c.from_residual.result c.from_residual.ensures.1 in
+    rw (p.1, p.2) (rw c.in_err-reply.was at (replied g (goal.at.returns-in_err-reply-clause-went g c).After-play))
+
+pub returns-clause-went : goal.returns-clause-went
+returns-clause-went g c = rw c.copy_from_slice.ensures.after (rw c.in_ok-reply.was at (replied g (goal.at.returns-clause-went g c).After-play))

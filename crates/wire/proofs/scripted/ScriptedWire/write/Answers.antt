@@ -1,25 +1,8 @@
-use Rattle.std.proofs.Common.{sym, refl}
+use Rattle.std.proofs.Common.{[], refl, rules}
 use Rattle.chip.specs.Chip.{write}
-use Rattle.wire.specs.Scripted.{seen}
-use Rattle.wire.specs.Scripteds.{broke, lost, passed, refused}
+use Rattle.wire.proofs.Plays.{played}
+use Rattle.wire.specs.Wire.{heard_of}
 use Rattle.wire.proofs.scripted.ScriptedWire.write.Goals as goal
 
-pub returns-in-Pass : goal.returns-in-Pass
-returns-in-Pass g c =
-    passed g.W.Wire.goes seen c.args.self.now (record { below = c.write.new.self; script = c.take.new.self }) (write c.args.address c.args.bytes.now) refl c.take.ensures.after c.take.ensures.same
-    (sym c.in-Pass.ensures.value) c.write.ensures
-
-pub returns-in-Refuse : goal.returns-in-Refuse
-returns-in-Refuse g c =
-    refused g.W.Wire.goes seen c.args.self.now (record { below = c.args.self.now.below; script = c.take.new.self }) (write c.args.address c.args.bytes.now) refl c.take.ensures.after c.take.ensures.same
-    (sym c.in-Refuse.ensures.value) refl
-
-pub returns-in-Break : goal.returns-in-Break
-returns-in-Break g c =
-    broke g.W.Wire.goes seen c.args.self.now (record { below = c.args.self.now.below; script = c.take.new.self }) (write c.args.address c.args.bytes.now) refl c.take.ensures.after c.take.ensures.same
-    (sym c.in-Break.ensures.value) refl
-
-pub returns-in-DropReply : goal.returns-in-DropReply
-returns-in-DropReply g c =
-    lost g.W.Wire.goes seen c.args.self.now (record { below = c.write-in-DropReply.new.self; script = c.take.new.self }) (write c.args.address c.args.bytes.now) refl c.take.ensures.after c.take.ensures.same
-    (sym c.in-DropReply.ensures.value) c.write-in-DropReply.ensures
+pub returns : goal.returns
+returns g c = played g.W.Wire.goes (write c.args.address c.args.bytes.now) refl (λ r. heard_of r []) (λ e. refl) c.play.ensures (λ u w r d. search rules)
