@@ -1,20 +1,7 @@
 -- What a line says.
-use Rattle.std.specs.Prelude.{ℕ, cond, ◌&&◌, List, [], ◌∷◌, length, drop, Some, None, Option, ◌==◌, nat_le}
+use Rattle.std.specs.Prelude.{ℕ, cond, ◌&&◌, List, [], ◌∷◌, length, Some, None, Option, nat_le}
+use Rattle.lines.specs.Cuts.{pieces}
 use Rattle.lines.specs.Fields.{proper, worth}
-
--- a byte more at the start of the first piece
-abbrev pub longer : ℕ → List (List ℕ) → List (List ℕ)
-longer b [] = (b ∷ []) ∷ []
-longer b (p ∷ ps) = (b ∷ p) ∷ ps
-
--- a line cut at its commas
-abbrev pub pieces : List ℕ → List (List ℕ)
-pieces [] = [] ∷ []
-pieces (b ∷ bs) = cond (b == 44) ([] ∷ pieces bs) (longer b (pieces bs))
-
--- the pieces from a place on; past the end there is none
-abbrev pub pieces_from : List ℕ → (place : ℕ) → List (List ℕ)
-pieces_from bs i = cond (nat_le i (length bs)) (pieces (drop i bs)) []
 
 -- a number before others
 abbrev pub before : ℕ → Option (List ℕ) → Option (List ℕ)

@@ -1,33 +1,38 @@
 // A text cut into lines: only LF ends one, and the last needs none.
-ghost use Rattle.std.specs.Prelude.{◌≡◌, ℕ, ◌+◌, ◌<◌, ◌≤◌, length, MatchOption};
-ghost use Rattle.lines.specs.Fields.{piece_at};
+ghost use Rattle.std.specs.Prelude.{◌≡◌};
+ghost use Rattle.std.specs.Iterator.{YieldsFirstRef, item_count};
+ghost use Rattle.lines.specs.Cuts.{lines};
 
-use super::token;
+use super::mark;
 
 // The lines that are still to come.
 #[derive(Drop)]
 pub struct Input<'a> {
-    text: &'a [u8],
-    at: usize,
+    rest: &'a [u8],
 }
 
 impl<'a> Input<'a> {
-    pub fn new(text: &'a [u8]) -> Input<'a>
-        ensures { (result.text.now ≡ text.now) × (result.at ≡ 0) }
+    pub fn new(text: &'a [u8]) -> Self
+        ensures { result.rest.now ≡ text.now }
     {
-        Input { text, at: 0 }
+        Input { rest: text }
     }
+}
+
+impl<'a> Iterator for Input<'a> {
+    type Item = &'a [u8];
+
+    ghost next_gives = { YieldsFirstRef (λ s. lines s.rest.now) };
+
+    ghost remaining = { item_count (λ s. lines s.rest.now) };
 
     // The next line, without its newline.
-    pub fn next(&mut self) -> Option<&'a [u8]>
-        ensures same { self.new.text ≡ self.old.text }
-        ensures cases { MatchOption result (length self.old.text.now ≤ self.old.at) (λ l. (self.old.at < length self.old.text.now) × (l.now ≡ piece_at 10 self.old.text.now self.old.at) × (self.new.at ≡ self.old.at + length l.now + 1)) }
-    {
-        if self.at >= self.text.len() {
+    fn next(&mut self) -> Option<&'a [u8]> {
+        if self.rest.is_empty() {
             return None;
         }
-        let line = token::cut(self.text, self.at, b'\n').text;
-        self.at += line.len() + 1;
+        let (line, rest) = mark::cut(self.rest, b'\n');
+        self.rest = rest.unwrap_or(&[]);
         Some(line)
     }
 }

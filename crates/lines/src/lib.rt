@@ -3,5 +3,6 @@
 
 pub mod input;
 pub mod line;
+mod mark;
 pub mod numbers;
 pub mod token;

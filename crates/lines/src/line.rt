@@ -1,7 +1,8 @@
 // One line: its word and its fields.
 ghost use Rattle.std.specs.Prelude.{◌≡◌, Some, None, MatchResult};
 ghost use Rattle.chip.specs.declared.refusal.Refusal.TheVariants.{Unreadable};
-ghost use Rattle.lines.specs.Lines.{said, few, numbers, pieces_from};
+ghost use Rattle.lines.specs.Cuts.{pieces_left};
+ghost use Rattle.lines.specs.Lines.{said, few, numbers};
 ghost use Rattle.lines.specs.Numbers.{items};
 
 use super::numbers::Numbers;
@@ -16,28 +17,27 @@ pub struct Line<'a> {
 }
 
 // The numbers in all tokens that are still to come.
-fn all_numbers(mut tokens: Tokens) -> Result<Numbers, Refusal>
-    ensures { MatchResult result (λ ns. few (numbers (pieces_from tokens.entry.line.now tokens.entry.at)) ≡ Some (items ns)) (λ e. (e ≡ Unreadable) × (few (numbers (pieces_from tokens.entry.line.now tokens.entry.at)) ≡ None)) }
+#[tactic(auto, using(crate::proofs::Cuts::next_piece, crate::proofs::Pieces::one_number_more))]
+fn all_numbers(tokens: Tokens) -> Result<Numbers, Refusal>
+    ensures { MatchResult result (λ ns. few (numbers (pieces_left tokens.entry.rest)) ≡ Some (items ns)) (λ e. (e ≡ Unreadable) × (few (numbers (pieces_left tokens.entry.rest)) ≡ None)) }
 {
     let mut fields = Numbers::none();
-    while let Some(token) = tokens.next() {
-        let n = token::decimal(token)?;
-        fields.push(n)?;
+    for token in tokens {
+        fields.push(token::decimal(token)?)?;
     }
     Ok(fields)
 }
 
 // Reads a line, without its newline.
-pub fn parse<'a>(line: &'a [u8]) -> Result<Line<'a>, Refusal>
+#[tactic(auto, using(crate::proofs::Cuts::next_piece, crate::proofs::Pieces::said_is))]
+pub fn parse(line: &[u8]) -> Result<Line<'_>, Refusal>
     ensures { MatchResult result (λ l. said line.now ≡ Some (record { word = l.word.text.now; fields = items l.fields })) (λ e. (e ≡ Unreadable) × (said line.now ≡ None)) }
 {
     if line.is_empty() || line.len() > 80 {
         return Err(Refusal::Unreadable);
     }
     let mut tokens = Tokens::new(line);
-    let Some(word) = tokens.next() else {
-        return Err(Refusal::Unreadable);
-    };
+    let word = tokens.next().ok_or(Refusal::Unreadable)?;
     let fields = all_numbers(tokens)?;
     Ok(Line { word, fields })
 }

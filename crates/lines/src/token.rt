@@ -1,9 +1,13 @@
 // A line's pieces between commas, as tokens that borrow their bytes from the line and know their place in it.
-ghost use Rattle.std.specs.Prelude.{◌≡◌, ℕ, ◌+◌, ◌-◌, ◌<◌, ◌≤◌, length, drop, MatchOption};
-ghost use Rattle.std.specs.List.{prefix_len};
-ghost use Rattle.lines.specs.Fields.{plain, piece_at, field_of};
+ghost use Rattle.std.specs.Prelude.{◌≡◌, ◌+◌, ◌<◌, ◌^◌};
+ghost use Rattle.std.specs.Char.{is_ascii_digit};
+ghost use Rattle.std.specs.List.{list_all};
+ghost use Rattle.lines.specs.Cuts.{extent, pieces, placed};
+ghost use Rattle.lines.specs.Fields.{field_of};
 
+use super::mark;
 use chip::refusal::Refusal;
+use std::str;
 
 #[derive(Clone, Copy)]
 pub struct Token<'a> {
@@ -12,78 +16,66 @@ pub struct Token<'a> {
     pub place: usize,
 }
 
-// The tokens that are still to come: `at` is past the end once there is none.
+// The tokens that are still to come.
 #[derive(Drop)]
 pub struct Tokens<'a> {
-    line: &'a [u8],
-    at: usize,
-}
-
-// How many bytes there are from `from` up to the next mark or the end.
-fn run(bytes: &[u8], from: usize, mark: u8) -> usize
-    requires { from ≤ length bytes.now }
-    ensures value { result ≡ prefix_len (plain mark) (drop from bytes.now) }
-    ensures bound { from + result ≤ length bytes.now }
-{
-    let mut i = from;
-    while i < bytes.len() && bytes[i] != mark {
-        i += 1;
-    }
-    i - from
-}
-
-// The token that starts at `from` and goes up to the next mark or the end.
-pub(crate) fn cut<'a>(bytes: &'a [u8], from: usize, mark: u8) -> Token<'a>
-    requires { from ≤ length bytes.now }
-    ensures text { result.text.now ≡ piece_at mark bytes.now from }
-    ensures place { result.place ≡ from }
-    ensures bound { from + length result.text.now ≤ length bytes.now }
-{
-    let n = run(bytes, from, mark);
-    Token {
-        text: &bytes[from..from + n],
-        place: from,
-    }
+    // what comes after the last comma that was passed; none after the last token
+    rest: Option<&'a [u8]>,
+    // where the next token starts in the line
+    place: usize,
+    // so that there is a place for each token
+    ghost fits: { place + extent rest < 2 ^ 64 },
 }
 
 impl<'a> Tokens<'a> {
-    pub fn new(line: &'a [u8]) -> Tokens<'a>
-        ensures { (result.line.now ≡ line.now) × (result.at ≡ 0) }
-    {
-        Tokens { line, at: 0 }
-    }
+    ghost use Rattle.lines.specs.Tokens.{tokens_left};
 
-    // The next token, up to a comma or the end.
-    pub fn next(&mut self) -> Option<Token<'a>>
-        ensures same { self.new.line ≡ self.old.line }
-        ensures cases { MatchOption result (length self.old.line.now < self.old.at) (λ t. (self.old.at ≤ length self.old.line.now) × (t.text.now ≡ piece_at 44 self.old.line.now self.old.at) × (t.place ≡ self.old.at) × (self.new.at ≡ self.old.at + length t.text.now + 1)) }
+    pub fn new(line: &'a [u8]) -> Self
+        ensures { tokens_left result ≡ placed 0 (pieces line.now) }
     {
-        if self.at > self.line.len() {
-            return None;
+        Tokens {
+            rest: Some(line),
+            place: 0,
         }
-        let token = cut(self.line, self.at, b',');
-        self.at += token.text.len() + 1;
-        Some(token)
     }
 }
 
+impl<'a> Iterator for Tokens<'a> {
+    ghost use Rattle.std.specs.Iterator.{YieldsFirstBy, item_count};
+    ghost use Rattle.lines.specs.Tokens.{tokens_left};
+
+    type Item = Token<'a>;
+
+    ghost next_gives = { YieldsFirstBy (λ t. (t.text.now, t.place)) tokens_left };
+
+    ghost remaining = { item_count tokens_left };
+
+    // The next token, up to a comma or the end.
+    fn next(&mut self) -> Option<Token<'a>> {
+        let (text, rest) = mark::cut(self.rest?, b',');
+        let place = self.place;
+        self.place += text.len() + 1;
+        self.rest = rest;
+        Some(Token { text, place })
+    }
+}
+
+// `parse` would take a `+` too.
+fn is_decimal(text: &[u8]) -> bool
+    ensures { result ≡ list_all is_ascii_digit text.now }
+{
+    text.iter().all(|b| b.is_ascii_digit())
+}
+
 // A field's number: one to five digits, at most 65,535.
+#[tactic(auto, using(crate::proofs::Decimals::digits_are_text))]
 pub fn decimal(token: Token) -> Result<u16, Refusal>
     ensures { result ≡ field_of token.entry.text.now }
 {
     let text = token.text;
-    if text.is_empty() || text.len() > 5 {
+    if text.len() > 5 || !is_decimal(text) {
         return Err(Refusal::Unreadable);
     }
-    let mut n: u32 = 0;
-    for b in text {
-        if *b < b'0' || *b > b'9' {
-            return Err(Refusal::Unreadable);
-        }
-        n = n * 10 + (*b - b'0') as u32;
-    }
-    if n > 65535 {
-        return Err(Refusal::Unreadable);
-    }
-    Ok(n as u16)
+    let digits = str::from_utf8(text).map_err(|_| Refusal::Unreadable)?;
+    digits.parse().map_err(|_| Refusal::Unreadable)
 }
