@@ -1,177 +1,85 @@
-// What is printed for a line, with a chip on the bench behind a scripted wire.
-use crate::reply;
+// A chip on the bench, behind a scripted wire.
+ghost use Rattle.std.specs.Prelude.{◌≡◌, IfOk};
+ghost use Rattle.arrayvec.specs.ArrayVec.{array_vec_len};
+ghost use Rattle.wire.specs.Scripted.{seen, unplayed};
+
+use super::command::Command;
+use super::reply::{Bytes, Reply};
+use arrayvec::ArrayVec;
+use chip::chip::LONGEST_READ;
 use chip::refusal::Refusal;
 use chip::state::Codes;
 use lines::line;
-use lines::line::Line;
-use std::alloc::{AllocError, Global};
 use wire::scripted::Scripted;
 use wire::wire::Wire;
 
-// The kinds of chip.
-#[derive(Clone, Copy)]
-pub(crate) enum Kind {
-    Pac193x,
-    Pac194x,
+#[derive(Drop)]
+pub(crate) struct Bench<W> {
+    wire: Scripted<W>,
 }
 
-// The kind that a line asks for, if it is a good `kind` line.
-pub(crate) fn kind_of(bytes: &[u8]) -> Option<Kind> {
-    let Ok(said) = line::parse(bytes) else {
-        return None;
-    };
-    if said.word.text != b"kind".as_slice() {
-        return None;
+impl<W: Wire> Bench<W> {
+    // Over a wire, with no outcome added.
+    pub(crate) fn new(below: W) -> Bench<W>
+        ensures { seen result.wire ≡ unplayed below }
+    {
+        Bench {
+            wire: Scripted::new(below),
+        }
     }
-    match said.fields.as_slice() {
-        [193] => Some(Kind::Pac193x),
-        [194] => Some(Kind::Pac194x),
-        _ => None,
+
+    // The reply to a line that names a command; any other line is unreadable.
+    pub(crate) fn answer(&mut self, line: &[u8]) -> Result<Reply, Refusal> {
+        let said = line::parse(line)?;
+        let command = Command::try_from(&said)?;
+        Ok(Reply {
+            word: command.word(),
+            outcome: self.obey(command),
+        })
     }
-}
 
-// One line for the chip on the bench.
-pub(crate) fn answer<W: Wire>(
-    wire: &mut Scripted<W>,
-    heap: Global,
-    bytes: &[u8],
-) -> Result<String, AllocError> {
-    let Ok(said) = line::parse(bytes) else {
-        return reply::unreadable(heap);
-    };
-    obey(wire, heap, &said)
-}
-
-fn obey<W: Wire>(wire: &mut Scripted<W>, heap: Global, said: &Line) -> Result<String, AllocError> {
-    let fields = said.fields.as_slice();
-    match said.word.text {
-        b"cycle" => cycles(wire, heap, "cycle", 1, fields),
-        b"cycles" => match fields {
-            [n, codes @ ..] => cycles(wire, heap, "cycles", *n, codes),
-            [] => reply::unreadable(heap),
-        },
-        b"fault" => fault(wire, heap, fields),
-        b"send" => send(wire, heap, fields),
-        b"write" => write(wire, heap, fields),
-        b"read" => read(wire, heap, fields),
-        _ => reply::unreadable(heap),
+    // Only a read answers bytes.
+    fn obey(&mut self, command: Command) -> Result<Bytes, Refusal> {
+        match command {
+            Command::Cycle(codes) => self.cycles(1, codes),
+            Command::Cycles(count, codes) => self.cycles(count, codes),
+            Command::Fault(outcome) => self.wire.add(u8::try_from(outcome)?)?,
+            Command::Send(address) => self.wire.send(u8::try_from(address)?)?,
+            Command::Write { address, values } => self.write(address, values)?,
+            Command::Read { address, length } => return self.read(address, length),
+        }
+        Ok(Bytes::new())
     }
-}
 
-// The same codes in `n` cycles.
-fn cycles<W: Wire>(
-    wire: &mut W,
-    heap: Global,
-    word: &str,
-    n: u16,
-    fields: &[u16],
-) -> Result<String, AllocError> {
-    let Some(codes) = codes_of(fields) else {
-        return reply::unreadable(heap);
-    };
-    for _ in 0..n {
-        wire.cycle(codes);
+    // The same codes in `count` cycles.
+    fn cycles(&mut self, count: u16, codes: [Codes; 4]) {
+        for _ in 0..count {
+            self.wire.cycle(codes);
+        }
     }
-    reply::told(heap, word, Ok(()))
-}
 
-// Bus and sense code of each channel.
-fn codes_of(fields: &[u16]) -> Option<[Codes; 4]> {
-    let [v1, s1, v2, s2, v3, s3, v4, s4] = fields else {
-        return None;
-    };
-    Some([
-        Codes {
-            bus: *v1,
-            sense: *s1,
-        },
-        Codes {
-            bus: *v2,
-            sense: *s2,
-        },
-        Codes {
-            bus: *v3,
-            sense: *s3,
-        },
-        Codes {
-            bus: *v4,
-            sense: *s4,
-        },
-    ])
-}
-
-// A field that is to be an address or a byte.
-fn byte(field: u16) -> Result<u8, Refusal> {
-    match u8::try_from(field) {
-        Ok(b) => Ok(b),
-        Err(_) => Err(Refusal::Limits),
+    // No register takes more than eight bytes.
+    fn write(&mut self, address: u16, values: &[u16]) -> Result<(), Refusal> {
+        let address = u8::try_from(address)?;
+        let mut bytes = ArrayVec::<u8, 8>::new();
+        for value in values {
+            let byte = u8::try_from(*value)?;
+            bytes.try_push(byte).map_err(|_| Refusal::Limits)?;
+        }
+        self.wire.write(address, bytes.as_slice())
     }
-}
 
-// One outcome more for the script.
-fn fault<W: Wire>(
-    wire: &mut Scripted<W>,
-    heap: Global,
-    fields: &[u16],
-) -> Result<String, AllocError> {
-    let [number] = fields else {
-        return reply::unreadable(heap);
-    };
-    let result = match byte(*number) {
-        Ok(number) => wire.add(number),
-        Err(e) => Err(e),
-    };
-    reply::told(heap, "fault", result)
-}
-
-fn send<W: Wire>(wire: &mut W, heap: Global, fields: &[u16]) -> Result<String, AllocError> {
-    let [address] = fields else {
-        return reply::unreadable(heap);
-    };
-    let result = match byte(*address) {
-        Ok(address) => wire.send(address),
-        Err(e) => Err(e),
-    };
-    reply::told(heap, "send", result)
-}
-
-fn write<W: Wire>(wire: &mut W, heap: Global, fields: &[u16]) -> Result<String, AllocError> {
-    let [address, values @ ..] = fields else {
-        return reply::unreadable(heap);
-    };
-    reply::told(heap, "write", write_all(wire, *address, values))
-}
-
-fn write_all<W: Wire>(wire: &mut W, address: u16, values: &[u16]) -> Result<(), Refusal> {
-    let address = byte(address)?;
-    let mut bytes = [0u8; 8];
-    let mut len = 0;
-    for value in values {
-        if len >= 8 {
+    fn read(&mut self, address: u16, length: u16) -> Result<Bytes, Refusal>
+        ensures { IfOk result (λ bytes. array_vec_len bytes ≡ length) }
+    {
+        let address = u8::try_from(address)?;
+        let length = usize::from(length);
+        if length > LONGEST_READ {
             return Err(Refusal::Limits);
         }
-        bytes[len] = byte(*value)?;
-        len += 1;
-    }
-    wire.write(address, &bytes[0..len])
-}
-
-fn read<W: Wire>(wire: &mut W, heap: Global, fields: &[u16]) -> Result<String, AllocError> {
-    let [address, length] = fields else {
-        return reply::unreadable(heap);
-    };
-    let length = *length as usize;
-    let mut buffer = [0u8; 64];
-    if length > buffer.len() {
-        return reply::told(heap, "read", Err(Refusal::Limits));
-    }
-    let bytes = &mut buffer[0..length];
-    let result = match byte(*address) {
-        Ok(address) => wire.read(address, bytes),
-        Err(e) => Err(e),
-    };
-    match result {
-        Ok(()) => reply::shown(heap, "read", bytes),
-        Err(e) => reply::told(heap, "read", Err(e)),
+        let mut bytes = Bytes::from([0; LONGEST_READ]);
+        bytes.truncate(length);
+        self.wire.read(address, bytes.as_mut_slice())?;
+        Ok(bytes)
     }
 }
