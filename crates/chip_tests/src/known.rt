@@ -1,212 +1,142 @@
-// Two chips with something to see in every register, their listed registers, and the bytes that these show.
-use chip::chip::Chip;
+// What is known of each make: the registers that it lists, writes that give each something to show, and the bytes that
+// are shown then.
+use super::bench::Bench;
 use chip::make::Make;
-use chip::refusal::Refusal;
-use chip::state::Codes;
+use makes::pac193x::Pac193x;
+use makes::pac194x::Pac194x;
 use std::process::Abort;
-use std::test::Fail;
 
-// Addresses `first` to `last`, so many bytes each.
-#[derive(Clone, Copy)]
-pub(crate) struct Block {
-    pub(crate) first: u8,
-    pub(crate) last: u8,
-    pub(crate) width: usize,
+// Registers from an address to an address, so many bytes each; no range, since a constant's value cannot hold one yet.
+pub(crate) type Listed = (u8, u8, usize);
+
+// Bytes for addresses.
+pub(crate) type Writes = &'static [(u8, &'static [u8])];
+
+pub(crate) trait Known: Make + Drop {
+    const LISTED: &'static [Listed];
+
+    // settings for four busy cycles, for one more, and those that are then pending
+    const SETTINGS: [Writes; 3];
+
+    // what all that is listed shows then
+    const SHOWN: &'static [u8];
+
+    // which addresses take a write, and how many bytes
+    const TAKEN: [(u8, usize); 3];
+
+    // how many bytes the count has
+    const COUNT_WIDTH: usize;
+
+    // how many bytes a sum has
+    const SUM_WIDTH: usize;
+
+    // what a sum shows after one cycle of v 4, s 65532, on a one-way channel
+    const ONE_WAY: u64;
+
+    // and on a two-way one
+    const TWO_WAY: u64;
+
+    // Writes which channels are off and which are two-way: bit 3 is channel 1.
+    fn write_masks<R: Abort>(bench: &mut Bench<Self, R>, off: u8, two_way: u8);
 }
 
-pub(crate) const LIST_193X: [Block; 7] = [
-    Block {
-        first: 0x01,
-        last: 0x01,
-        width: 1,
-    },
-    Block {
-        first: 0x02,
-        last: 0x02,
-        width: 3,
-    },
-    Block {
-        first: 0x03,
-        last: 0x06,
-        width: 6,
-    },
-    Block {
-        first: 0x07,
-        last: 0x16,
-        width: 2,
-    },
-    Block {
-        first: 0x17,
-        last: 0x1a,
-        width: 4,
-    },
-    Block {
-        first: 0x1c,
-        last: 0x1d,
-        width: 1,
-    },
-    Block {
-        first: 0x21,
-        last: 0x26,
-        width: 1,
-    },
-];
+impl Known for Pac193x {
+    const LISTED: &'static [Listed] = &[
+        (0x01, 0x01, 1),
+        (0x02, 0x02, 3),
+        (0x03, 0x06, 6),
+        (0x07, 0x16, 2),
+        (0x17, 0x1a, 4),
+        (0x1c, 0x1d, 1),
+        (0x21, 0x26, 1),
+    ];
 
-pub(crate) const LIST_194X: [Block; 10] = [
-    Block {
-        first: 0x01,
-        last: 0x01,
-        width: 2,
-    },
-    Block {
-        first: 0x02,
-        last: 0x02,
-        width: 4,
-    },
-    Block {
-        first: 0x03,
-        last: 0x06,
-        width: 7,
-    },
-    Block {
-        first: 0x07,
-        last: 0x16,
-        width: 2,
-    },
-    Block {
-        first: 0x17,
-        last: 0x1a,
-        width: 4,
-    },
-    Block {
-        first: 0x1c,
-        last: 0x1c,
-        width: 1,
-    },
-    Block {
-        first: 0x1d,
-        last: 0x1d,
-        width: 2,
-    },
-    Block {
-        first: 0x21,
-        last: 0x24,
-        width: 2,
-    },
-    Block {
-        first: 0x25,
-        last: 0x25,
-        width: 1,
-    },
-    Block {
-        first: 0x26,
-        last: 0x26,
-        width: 3,
-    },
-];
+    const SETTINGS: [Writes; 3] = [
+        &[(0x01, &[0xf7]), (0x1c, &[0x12]), (0x1d, &[0x4b])],
+        &[(0x01, &[0x9a]), (0x1c, &[0x80]), (0x1d, &[0x13])],
+        &[(0x01, &[0x41]), (0x1c, &[0x2c]), (0x1d, &[0xf0])],
+    ];
 
-pub(crate) const SHOWN_193X: [u8; 84] = [
-    0x41, 0x00, 0x00, 0x04, 0x00, 0x00, 0x0b, 0xeb, 0xc2, 0x00, 0xff, 0xff, 0xff, 0x99, 0xc4, 0x20,
-    0x00, 0x00, 0x1a, 0xd3, 0x5e, 0xe0, 0x00, 0x00, 0x00, 0x00, 0x00, 0x00, 0x9c, 0x40, 0xc3, 0x51,
-    0xea, 0x63, 0x00, 0x00, 0x4e, 0x20, 0xfd, 0xe8, 0x75, 0x37, 0x00, 0x00, 0x00, 0x00, 0x00, 0x00,
-    0x00, 0x00, 0x00, 0x00, 0x00, 0x00, 0x00, 0x00, 0x00, 0x00, 0x00, 0x00, 0x2f, 0xaf, 0x08, 0x00,
-    0xfe, 0x67, 0x10, 0x80, 0x6b, 0x4d, 0x7b, 0x80, 0x00, 0x00, 0x00, 0x00, 0x2c, 0xf0, 0x9a, 0x80,
-    0x13, 0xf6, 0x12, 0x4b,
-];
+    const SHOWN: &'static [u8] = &[
+        0x41, 0x00, 0x00, 0x04, 0x00, 0x00, 0x0b, 0xeb, 0xc2, 0x00, 0xff, 0xff, 0xff, 0x99, 0xc4,
+        0x20, 0x00, 0x00, 0x1a, 0xd3, 0x5e, 0xe0, 0x00, 0x00, 0x00, 0x00, 0x00, 0x00, 0x9c, 0x40,
+        0xc3, 0x51, 0xea, 0x63, 0x00, 0x00, 0x4e, 0x20, 0xfd, 0xe8, 0x75, 0x37, 0x00, 0x00, 0x00,
+        0x00, 0x00, 0x00, 0x00, 0x00, 0x00, 0x00, 0x00, 0x00, 0x00, 0x00, 0x00, 0x00, 0x00, 0x00,
+        0x2f, 0xaf, 0x08, 0x00, 0xfe, 0x67, 0x10, 0x80, 0x6b, 0x4d, 0x7b, 0x80, 0x00, 0x00, 0x00,
+        0x00, 0x2c, 0xf0, 0x9a, 0x80, 0x13, 0xf6, 0x12, 0x4b,
+    ];
 
-pub(crate) const SHOWN_194X: [u8; 97] = [
-    0x43, 0x21, 0x00, 0x00, 0x00, 0x04, 0x00, 0x00, 0x00, 0x2f, 0xaf, 0x08, 0x00, 0xff, 0xff, 0xff,
-    0xfe, 0x67, 0x10, 0x80, 0x00, 0x00, 0x00, 0x6b, 0x50, 0x3a, 0xa0, 0x00, 0x00, 0x00, 0x00, 0x00,
-    0x00, 0x00, 0x9c, 0x40, 0xc3, 0x51, 0xea, 0x63, 0x00, 0x00, 0x4e, 0x20, 0xfd, 0xe8, 0x75, 0x37,
-    0x00, 0x00, 0x00, 0x00, 0x00, 0x00, 0x00, 0x00, 0x00, 0x00, 0x00, 0x00, 0x00, 0x00, 0x00, 0x00,
-    0x00, 0x00, 0x2f, 0xaf, 0x08, 0x00, 0xfe, 0x67, 0x10, 0x80, 0x6b, 0x50, 0x3a, 0xa0, 0x00, 0x00,
-    0x00, 0x00, 0x3c, 0x55, 0xaa, 0x5c, 0x8f, 0x42, 0x01, 0x7a, 0x15, 0x1b, 0x77, 0x00, 0x00, 0x00,
-    0x00,
-];
+    const TAKEN: [(u8, usize); 3] = [(0x01, 1), (0x1c, 1), (0x1d, 1)];
 
-pub(crate) const BUSY: [Codes; 4] = [
-    Codes {
-        bus: 40000,
-        sense: 20000,
-    },
-    Codes {
-        bus: 50001,
-        sense: 65000,
-    },
-    Codes {
-        bus: 60003,
-        sense: 30007,
-    },
-    Codes {
-        bus: 1111,
-        sense: 2222,
-    },
-];
+    const COUNT_WIDTH: usize = 3;
 
-const LATER: [Codes; 4] = [
-    Codes { bus: 5, sense: 6 },
-    Codes { bus: 7, sense: 8 },
-    Codes { bus: 9, sense: 10 },
-    Codes { bus: 11, sense: 12 },
-];
+    const SUM_WIDTH: usize = 6;
 
-// The number of a refusal, or 0.
-pub(crate) fn number(r: Result<(), Refusal>) -> u8 {
-    match r {
-        Ok(()) => 0,
-        Err(e) => e.number(),
+    const ONE_WAY: u64 = 16383;
+
+    const TWO_WAY: u64 = 0xffff_ffff_ffff;
+
+    fn write_masks<R: Abort>(bench: &mut Bench<Self, R>, off: u8, two_way: u8) {
+        bench.write(0x1c, &[off << 4]);
+        bench.write(0x1d, &[two_way << 4]);
     }
 }
 
-// That a transaction was not acknowledged by the chip, at this address.
-pub(crate) fn refused_at(rt: &impl Abort, r: Result<(), Refusal>, address: u8) -> Result<(), Fail> {
-    let Err(e) = r else {
-        return Err(Fail::new("taken"));
-    };
-    assert_eq!(rt; e.number(), 2);
-    assert!(rt; matches!(e.at_address(), Some(a) if a == address));
-    assert!(rt; matches!(e.refused_by(), Some(who) if who.number() == 2));
-    Ok(())
-}
+impl Known for Pac194x {
+    const LISTED: &'static [Listed] = &[
+        (0x01, 0x01, 2),
+        (0x02, 0x02, 4),
+        (0x03, 0x06, 7),
+        (0x07, 0x16, 2),
+        (0x17, 0x1a, 4),
+        (0x1c, 0x1c, 1),
+        (0x1d, 0x1d, 2),
+        (0x21, 0x24, 2),
+        (0x25, 0x25, 1),
+        (0x26, 0x26, 3),
+    ];
 
-pub(crate) fn write<M: Make>(rt: &impl Abort, chip: &mut Chip<M>, address: u8, bytes: &[u8]) {
-    assert_eq!(rt; number(chip.write(address, bytes)), 0);
-}
+    const SETTINGS: [Writes; 3] = [
+        &[
+            (0x01, &[0x7a, 0x15]),
+            (0x1c, &[0xa5]),
+            (0x1d, &[0x1b, 0x77]),
+        ],
+        &[(0x01, &[0x5c, 0x8f]), (0x1d, &[0x42, 0x01])],
+        &[
+            (0x01, &[0x43, 0x21]),
+            (0x1c, &[0x3c]),
+            (0x1d, &[0x55, 0xaa]),
+        ],
+    ];
 
-// Settings in force for four busy cycles, others for one more, and others pending.
-pub(crate) fn busy_193x<M: Make>(rt: &impl Abort, chip: &mut Chip<M>) {
-    write(rt, chip, 0x01, &[0xf7]);
-    write(rt, chip, 0x1c, &[0x12]);
-    write(rt, chip, 0x1d, &[0x4b]);
-    assert_eq!(rt; number(chip.send(0x00)), 0);
-    four_cycles(chip);
-    write(rt, chip, 0x01, &[0x9a]);
-    write(rt, chip, 0x1c, &[0x80]);
-    write(rt, chip, 0x1d, &[0x13]);
-    assert_eq!(rt; number(chip.send(0x00)), 0);
-    chip.cycle(LATER);
-    write(rt, chip, 0x01, &[0x41]);
-    write(rt, chip, 0x1c, &[0x2c]);
-    write(rt, chip, 0x1d, &[0xf0]);
-}
+    const SHOWN: &'static [u8] = &[
+        0x43, 0x21, 0x00, 0x00, 0x00, 0x04, 0x00, 0x00, 0x00, 0x2f, 0xaf, 0x08, 0x00, 0xff, 0xff,
+        0xff, 0xfe, 0x67, 0x10, 0x80, 0x00, 0x00, 0x00, 0x6b, 0x50, 0x3a, 0xa0, 0x00, 0x00, 0x00,
+        0x00, 0x00, 0x00, 0x00, 0x9c, 0x40, 0xc3, 0x51, 0xea, 0x63, 0x00, 0x00, 0x4e, 0x20, 0xfd,
+        0xe8, 0x75, 0x37, 0x00, 0x00, 0x00, 0x00, 0x00, 0x00, 0x00, 0x00, 0x00, 0x00, 0x00, 0x00,
+        0x00, 0x00, 0x00, 0x00, 0x00, 0x00, 0x2f, 0xaf, 0x08, 0x00, 0xfe, 0x67, 0x10, 0x80, 0x6b,
+        0x50, 0x3a, 0xa0, 0x00, 0x00, 0x00, 0x00, 0x3c, 0x55, 0xaa, 0x5c, 0x8f, 0x42, 0x01, 0x7a,
+        0x15, 0x1b, 0x77, 0x00, 0x00, 0x00, 0x00,
+    ];
 
-pub(crate) fn busy_194x<M: Make>(rt: &impl Abort, chip: &mut Chip<M>) {
-    write(rt, chip, 0x01, &[0x7a, 0x15]);
-    write(rt, chip, 0x1c, &[0xa5]);
-    write(rt, chip, 0x1d, &[0x1b, 0x77]);
-    assert_eq!(rt; number(chip.send(0x00)), 0);
-    four_cycles(chip);
-    write(rt, chip, 0x01, &[0x5c, 0x8f]);
-    write(rt, chip, 0x1d, &[0x42, 0x01]);
-    assert_eq!(rt; number(chip.send(0x00)), 0);
-    chip.cycle(LATER);
-    write(rt, chip, 0x01, &[0x43, 0x21]);
-    write(rt, chip, 0x1c, &[0x3c]);
-    write(rt, chip, 0x1d, &[0x55, 0xaa]);
-}
+    const TAKEN: [(u8, usize); 3] = [(0x01, 2), (0x1c, 1), (0x1d, 2)];
 
-fn four_cycles<M: Make>(chip: &mut Chip<M>) {
-    for _ in 0..4 {
-        chip.cycle(BUSY);
+    const COUNT_WIDTH: usize = 4;
+
+    const SUM_WIDTH: usize = 7;
+
+    const ONE_WAY: u64 = 65532;
+
+    const TWO_WAY: u64 = 0xff_ffff_ffff_fffc;
+
+    fn write_masks<R: Abort>(bench: &mut Bench<Self, R>, off: u8, two_way: u8) {
+        bench.write(0x01, &[0x40, off << 4]);
+        bench.write(0x1d, &[polarity(two_way), 0]);
     }
+}
+
+// Two bits a channel, 01 where it is two-way.
+fn polarity(two_way: u8) -> u8 {
+    (two_way & 8) << 3 | (two_way & 4) << 2 | (two_way & 2) << 1 | two_way & 1
 }

@@ -1,77 +1,66 @@
 // Writes of every length at every address, and every send. A refused one leaves the chip as it was.
-use crate::known;
-use chip::chip::Chip;
-use chip::make::Make;
+use crate::bench::Bench;
+use crate::known::Known;
 use makes::pac193x::Pac193x;
 use makes::pac194x::Pac194x;
 use std::process::Abort;
-use std::test::Fail;
 
 // All that a chip shows, in two reads.
-#[derive(Clone, Copy)]
+#[derive(Debug, PartialEq, Eq, Drop)]
 struct Seen {
     first: [u8; 64],
     last: [u8; 64],
 }
 
-fn look<M: Make>(rt: &impl Abort, chip: &Chip<M>) -> Seen {
-    let mut first = [0u8; 64];
-    assert_eq!(rt; known::number(chip.read(0x01, &mut first)), 0);
-    let mut last = [0u8; 64];
-    assert_eq!(rt; known::number(chip.read(0x17, &mut last)), 0);
-    Seen { first, last }
+fn look<M: Known, R: Abort>(bench: &Bench<M, R>) -> Seen {
+    let mut seen = Seen {
+        first: [0; 64],
+        last: [0; 64],
+    };
+    bench.read(0x01, &mut seen.first);
+    bench.read(0x17, &mut seen.last);
+    seen
 }
 
-fn same(rt: &impl Abort, a: &Seen, b: &Seen) {
-    assert!(rt; a.first == b.first && a.last == b.last);
-}
-
-// Writes are taken at 01h, 1Ch and 1Dh with just so many bytes, and nowhere else.
-fn refuses_writes<M: Make>(
-    rt: &impl Abort,
-    chip: &mut Chip<M>,
-    widths: [usize; 3],
-) -> Result<(), Fail> {
-    let before = look(rt, chip);
-    let bytes = [0x5au8; 9];
-    for address in 0..=255u8 {
+// Writes are taken at three addresses with just so many bytes, and nowhere else.
+fn refuses_writes<M: Known, R: Abort>(bench: &mut Bench<M, R>) {
+    let before = look(bench);
+    for address in 0..=255 {
+        // no index: each length is tried
         for len in 0..9 {
-            let taken = (address == 0x01 && len == widths[0])
-                || (address == 0x1c && len == widths[1])
-                || (address == 0x1d && len == widths[2]);
-            if !taken {
-                known::refused_at(rt, chip.write(address, &bytes[0..len]), address)?;
+            if !M::TAKEN.contains(&(address, len)) {
+                let answer = bench.chip.write(address, &[0x5a; 9][..len]);
+                bench.assert_refused(answer, address);
             }
         }
     }
-    same(rt, &before, &look(rt, chip));
-    Ok(())
+    assert_eq!(bench.rt; look(bench), before);
 }
 
 // Sends are taken at 00h and 1Fh, and nowhere else.
-fn refuses_sends<M: Make>(rt: &impl Abort, chip: &mut Chip<M>) -> Result<(), Fail> {
-    let before = look(rt, chip);
-    for address in 0..=255u8 {
-        if address != 0x00 && address != 0x1f {
-            known::refused_at(rt, chip.send(address), address)?;
+fn refuses_sends<M: Known, R: Abort>(bench: &mut Bench<M, R>) {
+    let before = look(bench);
+    for address in 0..=255 {
+        if !matches!(address, 0x00 | 0x1f) {
+            let answer = bench.chip.send(address);
+            bench.assert_refused(answer, address);
         }
     }
-    same(rt, &before, &look(rt, chip));
-    Ok(())
+    assert_eq!(bench.rt; look(bench), before);
+}
+
+fn what_it_refuses<M: Known>(rt: &impl Abort) {
+    let mut bench: Bench<M, _> = Bench::busy(rt);
+    refuses_writes(&mut bench);
+    refuses_sends(&mut bench);
 }
 
 #[test]
-fn what_a_193x_refuses(rt: HostRuntime) -> Result<(), Fail> {
-    let mut chip: Chip<Pac193x> = Chip::new();
-    known::busy_193x(&rt, &mut chip);
-    refuses_writes(&rt, &mut chip, [1, 1, 1])?;
-    refuses_sends(&rt, &mut chip)
+fn what_a_193x_refuses(rt: HostRuntime) {
+    what_it_refuses::<Pac193x>(&rt);
 }
 
 #[test]
-fn what_a_194x_refuses(rt: HostRuntime) -> Result<(), Fail> {
-    let mut chip: Chip<Pac194x> = Chip::new();
-    known::busy_194x(&rt, &mut chip);
-    refuses_writes(&rt, &mut chip, [2, 1, 2])?;
-    refuses_sends(&rt, &mut chip)
+fn what_a_194x_refuses(rt: HostRuntime) {
+    what_it_refuses::<Pac194x>(&rt);
 }
