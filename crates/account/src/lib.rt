@@ -1,4 +1,4 @@
-// The theory of the meter: functions that do nothing, whose contracts are its theorems.
+//! The theory of the meter: functions that do nothing, whose contracts are its theorems.
 #![tactic(auto)]
 
 ghost use Rattle.account.specs.Bill.{WeightsMeant};
@@ -12,52 +12,52 @@ ghost use Rattle.chip.specs.Laws.{Lawful};
 
 use wire::wire::Wire;
 
-// Over every lawful make, every run is accounted for, conserved and billable.
+/// Over every lawful make, every run is accounted for, conserved and billable.
 pub fn every_run_is_accounted()
     ensures { EveryRun }
 {}
 
-// Over every lawful make: what each refusal leaves, that a draw obeys the set-up, makes at most five transactions, and goes on.
+/// Over every lawful make: what each refusal leaves, that a draw obeys the set-up, makes at most five transactions, and goes on.
 pub fn every_call_keeps_its_word()
     ensures { EveryCall }
 {}
 
-// Steps over any wire are calls of a run, its cycles are the run's cycles, and a new meter begins one.
+/// Steps over any wire are calls of a run, its cycles are the run's cycles, and a new meter begins one.
 pub fn wires_carry_runs<W: Wire>()
     ensures { CarriesRuns W.Make.Make.sheet W.Wire.chip W.Wire.goes W.Wire.passes }
 {}
 
-// A booking fills the next free place and leaves every other.
+/// A booking fills the next free place and leaves every other.
 pub fn books_keep_what_they_hold()
     ensures { BooksKeep }
 {}
 
-// Earlier entries never change.
+/// Earlier entries never change.
 pub fn the_book_only_grows()
     ensures { BookGrows }
 {}
 
-// What the bill's weights are for.
+/// What the bill's weights are for.
 pub fn weights_have_a_meaning()
     ensures { WeightsMeant }
 {}
 
-// A make of one channel with other addresses keeps the laws, so nothing rests on the makes with four.
+/// A make of one channel with other addresses keeps the laws, so nothing rests on the makes with four.
 pub fn a_single_channel_is_lawful()
     ensures { Lawful single }
 {}
 
-// The figures worked by hand, all together.
+/// The figures worked by hand, all together.
 pub fn figures_are_as_worked()
     ensures { Worked }
 {}
 
-// The statements speak of something: runs on both makes that end with a sound entry, a spoilt one, a write-off, and a slip got through doubt.
+/// The statements speak of something: runs on both makes that end with a sound entry, a spoilt one, a write-off, and a slip got through doubt.
 pub fn there_are_such_runs()
     ensures { RunsThereAre }
 {}
 
-// Why a run begins at a fresh chip.
+/// Why a run begins at a fresh chip.
 pub fn a_marked_chip_misleads()
     ensures { WhyFresh }
 {}

@@ -1,6 +1,7 @@
 -- Registers hold what fits them, whatever a chip is asked.
 use Rattle.std.proofs.Common.{◌≡◌, ℕ, suc, ◌+◌, ◌^◌, ◌<◌, ◌≤◌, Bool, true, false, cond, eqb, ltb, List, [], ◌∷◌, map, length, ℤ, pos, ◌+ℤ◌, Some, None, Option, refl, ap, ◌∙◌, subst, mod-lt, mod-eq_of_lt, pow_pos}
 use Rattle.std.proofs.lemmas.Bool.{cond_both}
+use Rattle.std.proofs.lemmas.List.{length-map}
 use Rattle.chip.specs.declared.state.Channel.{Channel}
 use Rattle.chip.specs.declared.state.Codes.{Codes}
 use Rattle.chip.specs.declared.state.Held.{Held}
@@ -20,30 +21,25 @@ module _ (m : Datasheet) where
   add_all_length s i (k ∷ ks) [] = refl
   add_all_length s i (k ∷ ks) (c ∷ cs) = ap suc (add_all_length s (i + 1) ks cs)
 
-  adds_below : (o : Bool) (c c' : Channel) → c.sum < 2 ^ m.sum_bits → c'.sum < 2 ^ m.sum_bits → (cond o c c').sum < 2 ^ m.sum_bits
-  adds_below true c c' p q = p
-  adds_below false c c' p q = q
-
   add_all_below : (s : Settings) (i : ℕ) (ks : List Codes) (cs : List Channel) → Every (λ c. c.sum < 2 ^ m.sum_bits) cs
       → Every (λ c. c.sum < 2 ^ m.sum_bits) (add_all m s i ks cs)
   add_all_below s i [] cs p = p
   add_all_below s i (k ∷ ks) [] p = tt
-  add_all_below s i (k ∷ ks) (c ∷ cs) p = (adds_below (in_mask (m.off s) i) c _ p.0 (bits_below _ _), add_all_below s (i + 1) ks cs p.1)
+  add_all_below s i (k ∷ ks) (c ∷ cs) p = (
+    cond_both (in_mask (m.off s) i) c _ (λ x. x.sum < 2 ^ m.sum_bits) (λ _. p.0) (λ _. bits_below _ _),
+    add_all_below s (i + 1) ks cs p.1,
+  )
 
   -- a channel that the make has not stays at 0
   zero_stays : (w : ℕ) (b : Bool) (n : ℕ) (z : ℤ) → n ≡ 0 → z ≡ pos 0 → bits_of w (value_of w b n +ℤ z) ≡ 0
   zero_stays w b n z e f = let p : 0 < 2 ^ w = pow_pos w in let v : value_of w b n ≡ pos 0 = rw e (zero_value w b) in rw (v, f) (mod-eq_of_lt p)
-
-  still_empty : (o : Bool) (c c' : Channel) → c.sum ≡ 0 → c'.sum ≡ 0 → (cond o c c').sum ≡ 0
-  still_empty true c c' p q = p
-  still_empty false c c' p q = q
 
   add_all_empty : (law : (i : ℕ) → m.channels ≤ i → (b : Bool) (k : Codes) → m.product i b k ≡ pos 0) (s : Settings) (i : ℕ) (ks : List Codes) (cs : List Channel)
       → EmptyFrom m.channels i cs → EmptyFrom m.channels i (add_all m s i ks cs)
   add_all_empty law s i [] cs p = p
   add_all_empty law s i (k ∷ ks) [] p = tt
   add_all_empty law s i (k ∷ ks) (c ∷ cs) p = (
-    λ l. still_empty (in_mask (m.off s) i) c _ (p.0 l) (zero_stays m.sum_bits (in_mask (m.two_way s) i) c.sum _ (p.0 l) (law i l _ k)),
+    λ l. cond_both (in_mask (m.off s) i) c _ (λ x. x.sum ≡ 0) (λ _. p.0 l) (λ _. zero_stays m.sum_bits (in_mask (m.two_way s) i) c.sum _ (p.0 l) (law i l _ k)),
     add_all_empty law s (i + 1) ks cs p.1,
   )
 
@@ -64,17 +60,13 @@ zero_below : (m : Datasheet) (cs : List Channel) → Every (λ c. c.sum < 2 ^ m.
 zero_below m [] = tt
 zero_below m (c ∷ cs) = (pow_pos m.sum_bits, zero_below m cs)
 
-zero_length : (cs : List Channel) → length (map cleared cs) ≡ length cs
-zero_length [] = refl
-zero_length (c ∷ cs) = ap suc (zero_length cs)
-
 zero_empty : (n i : ℕ) (cs : List Channel) → EmptyFrom n i (map cleared cs)
 zero_empty n i [] = tt
 zero_empty n i (c ∷ cs) = (λ l. refl, zero_empty n (i + 1) cs)
 
 pub zeroed_sound : (m : Datasheet) (r : Running) → Sound m r → Sound m (zeroed r)
 zeroed_sound m r ok = record {
-  four = zero_length r.channels ∙ ok.four;
+  four = length-map r.channels cleared ∙ ok.four;
   count = pow_pos m.count_bits;
   sums = zero_below m r.channels;
   rest =

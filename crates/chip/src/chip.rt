@@ -1,6 +1,6 @@
-// A chip of any make.
+//! A chip of any make.
 ghost use Rattle.std.specs.Prelude.{◌≡◌, ℕ, min, ◌++◌, length, take, drop, replicate};
-ghost use Rattle.chip.specs.Chip.{cycled, fresh_chip};
+ghost use Rattle.chip.specs.Chip.{cycled, fresh_chip, good_length};
 ghost use Rattle.chip.specs.Chip.{read, write, send, reacts, heard, state_after, bytes_after, reply};
 ghost use Rattle.chip.specs.Registers.{big_endian};
 
@@ -10,8 +10,15 @@ use super::register;
 use super::state::{Codes, State};
 use std::marker::PhantomData;
 
-// How many bytes a read fills at most.
+/// How many bytes a read fills at most.
 pub const LONGEST_READ: usize = 64;
+
+/// Whether a read may have so many bytes.
+pub fn is_readable(length: usize) -> bool
+    ensures { result ≡ good_length length }
+{
+    (1..=LONGEST_READ).contains(&length)
+}
 
 #[derive(Drop)]
 pub struct Chip<M> {
@@ -29,7 +36,7 @@ impl<M: Make> Chip<M> {
         }
     }
 
-    // One conversion cycle.
+    /// One conversion cycle.
     pub fn cycle(&mut self, codes: [Codes; 4])
         ensures { self.new.state ≡ cycled M.Make.sheet codes self.old.state }
     {
@@ -39,12 +46,12 @@ impl<M: Make> Chip<M> {
         }
     }
 
-    // Fills `bytes` from an address on, register after register.
+    /// Fills `bytes` from an address on, register after register.
     pub fn read(&self, address: u8, bytes: &mut [u8]) -> Result<(), Refusal>
         ensures answer { result ≡ heard address (reacts M.Make.sheet self.now.state (read address (length bytes.old))) }
         ensures filled { bytes.new ≡ bytes_after (reacts M.Make.sheet self.now.state (read address (length bytes.old))) bytes.old }
     {
-        if !(1..=LONGEST_READ).contains(&bytes.len()) {
+        if !is_readable(bytes.len()) {
             return Err(Refusal::Limits);
         }
         if M::command(address) || M::width(address) == 0 {
@@ -54,7 +61,7 @@ impl<M: Make> Chip<M> {
         Ok(())
     }
 
-    // Writes a settings register, with just its bytes.
+    /// Writes a settings register, with just its bytes.
     pub fn write(&mut self, address: u8, bytes: &[u8]) -> Result<(), Refusal>
         ensures answer { result ≡ heard address (reacts M.Make.sheet self.old.state (write address bytes.now)) }
         ensures after { self.new.state ≡ state_after (reacts M.Make.sheet self.old.state (write address bytes.now)) self.old.state }
@@ -69,7 +76,7 @@ impl<M: Make> Chip<M> {
         Err(Refusal::NotAcknowledged(Who::Chip, address))
     }
 
-    // Sends a command.
+    /// Sends a command.
     pub fn send(&mut self, address: u8) -> Result<(), Refusal>
         ensures answer { result ≡ heard address (reacts M.Make.sheet self.old.state (send address)) }
         ensures after { self.new.state ≡ state_after (reacts M.Make.sheet self.old.state (send address)) self.old.state }
@@ -89,7 +96,7 @@ impl<M: Make> Chip<M> {
     fn fill(&self, start: u8, bytes: &mut [u8])
         ensures { bytes.new ≡ reply M.Make.sheet self.now.state start (length bytes.old) }
     {
-        // A place beside the bytes, as the contract tells by place what they become.
+        // A place, and no slice that shrinks: with that the proof knew only the bytes that were left, and did not close.
         let mut at = 0;
         for address in start..=M::constants().last_address {
             if at == bytes.len() {

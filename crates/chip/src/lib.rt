@@ -1,4 +1,4 @@
-// What a make of power monitor is, and one chip over any make.
+//! What a make of power monitor is, and one chip over any make.
 #![tactic(auto)]
 
 pub mod chip;

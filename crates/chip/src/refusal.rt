@@ -1,11 +1,11 @@
-// The refusals of the whole house. One definition gives each case its number, and one each the values that it names.
+//! The refusals of the whole house. One definition gives each case its number, and one each the values that it names.
 ghost use Rattle.std.specs.Prelude.{◌≡◌};
 ghost use Rattle.chip.specs.declared.refusal.Refusal.TheVariants.{Limits};
 ghost use Rattle.chip.specs.Refusals.{number_of, who_number, refused_by, at_address, at_place};
 
 use std::num::TryFromIntError;
 
-// Who refused a transaction.
+/// Who refused a transaction.
 #[derive(Clone, Copy, Debug, PartialEq, Eq)]
 pub enum Who {
     Wire,
@@ -14,32 +14,32 @@ pub enum Who {
 
 #[derive(Clone, Copy, Debug, PartialEq, Eq)]
 pub enum Refusal {
-    // a number, read length, scratch or book outside its limits
+    /// a number, read length, scratch or book outside its limits
     Limits,
-    // not acknowledged: by whom, and at which address
+    /// not acknowledged: by whom, and at which address
     NotAcknowledged(Who, u8),
-    // broken, always by a wire: at which address
+    /// broken, always by a wire: at which address
     Broken(u8),
-    // draw or look with a slip out
+    /// draw or look with a slip out
     SlipOut,
-    // look when unfinished or in doubt
+    /// look when unfinished or in doubt
     NotReady,
-    // draw, the last draw number being used
+    /// draw, the last draw number being used
     NumbersSpent,
-    // a slip that is not the open one
+    /// a slip that is not the open one
     WrongSlip,
-    // book or script full
+    /// book or script full
     Full,
-    // an entry beyond its kind's ranges: at which place
+    /// an entry beyond its kind's ranges: at which place
     BadEntry(u16),
-    // a line that cannot be read
+    /// a line that cannot be read
     Unreadable,
-    // no slip in hand
+    /// no slip in hand
     NoSlip,
 }
 
 impl Who {
-    // The number that is printed. A method, as `u8::from(who)` would not say which number it is.
+    /// The number that is printed. A method, as `u8::from(who)` would not say which number it is.
     pub fn number(self) -> u8
         ensures { result ≡ who_number self }
     {
@@ -51,7 +51,7 @@ impl Who {
 }
 
 impl Refusal {
-    // The number that is printed. A method and no conversion, as a refusal tells more than that.
+    /// The number that is printed. A method and no conversion, as a refusal tells more than that.
     pub fn number(self) -> u8
         ensures { result ≡ number_of self }
     {

@@ -1,4 +1,4 @@
-// How a register's bits and bytes are read, as in specs/Registers.
+//! How a register's bits and bytes are read, as in specs/Registers.
 ghost use Rattle.std.specs.Prelude.{◌≡◌, ℕ, ◌+◌, ◌-◌, ◌^◌, ◌<◌, ◌≤◌, min, ◌++◌, length, take, drop, pos, unsigned_abs};
 ghost use Rattle.chip.specs.Registers.{value_of, in_range, bits_of, big_endian, number};
 
@@ -13,7 +13,8 @@ pub(crate) struct Format {
 
 impl Format {
     pub(crate) fn new(bits: u32, two_way: bool) -> Format
-        requires { (0 < bits) × (bits ≤ 64) }
+        requires some { 0 < bits }
+        requires fits { bits ≤ 64 }
         ensures { (result.bits ≡ bits) × (result.two_way ≡ two_way) }
     {
         Format { bits, two_way }
@@ -50,9 +51,9 @@ impl Format {
         ensures { result ≡ in_range self.bits self.two_way value }
     {
         if self.two_way {
-            -self.half() <= value && value < self.half()
+            (-self.half()..self.half()).contains(&value)
         } else {
-            0 <= value && value < self.size()
+            (0..self.size()).contains(&value)
         }
     }
 
@@ -64,7 +65,7 @@ impl Format {
     }
 }
 
-// A sense code, one-way or in two's complement.
+/// A sense code, one-way or in two's complement.
 pub fn sense_value(two_way: bool, sense: u16) -> i32
     ensures value { result ≡ value_of 16 two_way sense }
     ensures bound { unsigned_abs result < 65536 }

@@ -1,4 +1,4 @@
-// What a chip holds, and what cycles and commands make of it. The definitions in specs/ speak of these very types.
+//! What a chip holds, and what cycles and commands make of it. The definitions in specs/ speak of these very types.
 ghost use Rattle.std.specs.Prelude.{◌≡◌, ℕ, ◌<◌, ◌≤◌, map, length, ◌==◌};
 ghost use Rattle.chip.specs.Chip.{add_all, adds, any_leaves, cleared, counted, fresh_from, latched, leaves, ran, refreshed, zeroed};
 ghost use Rattle.chip.specs.Registers.{in_mask};
@@ -6,7 +6,7 @@ ghost use Rattle.chip.specs.Registers.{in_mask};
 use super::make::Make;
 use super::register::Format;
 
-// The settings registers, as written. Each make says which bits mean what, and keeps the others.
+/// The settings registers, as written. Each make says which bits mean what, and keeps the others.
 #[derive(Clone, Copy)]
 pub struct Settings {
     pub control: u16,
@@ -14,7 +14,7 @@ pub struct Settings {
     pub polarity: u16,
 }
 
-// What one channel converts in one cycle.
+/// What one channel converts in one cycle.
 #[derive(Clone, Copy)]
 pub struct Codes {
     pub bus: u16,
@@ -25,11 +25,11 @@ pub struct Codes {
 pub struct Channel {
     pub latest: Codes,
     pub product: i64,
-    // the sum register (accumulator), as bits
+    /// the sum register (accumulator), as bits
     pub sum: u64,
 }
 
-// The running part: what each cycle changes. Channel 1 comes first.
+/// The running part: what each cycle changes. Channel 1 comes first.
 #[derive(Clone, Copy)]
 pub struct Running {
     pub channels: [Channel; 4],
@@ -38,14 +38,14 @@ pub struct Running {
     pub count_flag: bool,
 }
 
-// The latch: a copy of a running part, with the settings then active.
+/// The latch: a copy of a running part, with the settings then active.
 #[derive(Clone, Copy)]
 pub struct Image {
     pub running: Running,
     pub settings: Settings,
 }
 
-// What a write can change: the pending settings, and a byte that is in force at once and copied nowhere.
+/// What a write can change: the pending settings, and a byte that is in force at once and copied nowhere.
 #[derive(Clone, Copy)]
 pub struct Held {
     pub settings: Settings,
@@ -60,15 +60,15 @@ pub struct State {
     pub image: Image,
 }
 
-// The channels that are off, and those that are two-way: bit 3 is channel 1, bit 0 channel 4. Numbers, as the
-// registers hold and the formats print them.
+/// The channels that are off, and those that are two-way: bit 3 is channel 1, bit 0 channel 4. Numbers, as in the
+/// registers and the definitions, so that no translation stands between.
 #[derive(Clone, Copy)]
 pub struct Masks {
     pub off: u8,
     pub two_way: u8,
 }
 
-// The numbers of a make.
+/// The numbers of a make.
 #[derive(Clone, Copy)]
 pub struct Constants {
     pub sum_bits: u32,
@@ -121,17 +121,17 @@ const IDLE: Running = Running {
 
 impl Channel {
     // This channel's part of a cycle; answers whether its sum left the register's range.
-    fn add<M: Make>(&mut self, settings: Settings, i: usize, codes: Codes) -> bool
-        ensures after { self.new ≡ adds M.Make.sheet settings i codes self.old }
-        ensures left { result ≡ leaves M.Make.sheet settings i codes self.old }
+    fn add<M: Make>(&mut self, settings: Settings, channel: usize, codes: Codes) -> bool
+        ensures after { self.new ≡ adds M.Make.sheet settings channel codes self.old }
+        ensures left { result ≡ leaves M.Make.sheet settings channel codes self.old }
     {
         let masks = M::masks(settings);
-        if masks.is_off(i) {
+        if masks.is_off(channel) {
             return false;
         }
-        let two_way = masks.is_two_way(i);
+        let two_way = masks.is_two_way(channel);
         let format = Format::new(M::constants().sum_bits, two_way);
-        let product = M::product(i, two_way, codes);
+        let product = M::product(channel, two_way, codes);
         let sum = format.value(self.sum) + i128::from(product);
         *self = Channel {
             latest: codes,
@@ -157,6 +157,7 @@ impl Running {
         ensures { self.new ≡ counted bits self.old }
     {
         let full = 1u64 << bits;
+        // `as`, since after a `From` the proof lacks the count's range, and the sum is not proved to fit.
         let next = self.count as u64 + 1;
         self.count = (next % full) as u32;
         self.count_flag |= next == full;
@@ -174,12 +175,15 @@ impl Running {
 }
 
 // All four channels' part of a cycle, each channel lent in turn; answers whether any sum left its range.
+// Settings and codes go along apart, since a channel takes one pair of the codes and all of the settings.
 fn add_all<M: Make>(settings: Settings, codes: &[Codes], channels: &mut [Channel]) -> bool
-    requires { (length codes.now ≡ 4) × (length channels.old ≡ 4) }
+    requires codes { length codes.now ≡ 4 }
+    requires channels { length channels.old ≡ 4 }
     ensures after { channels.new ≡ add_all M.Make.sheet settings 0 codes.now channels.old }
     ensures left { result ≡ any_leaves M.Make.sheet settings 0 codes.now channels.old }
 {
     let mut left = false;
+    // The codes by index: after a `zip` the proof has the channels only as they were.
     for (i, channel) in channels.iter_mut().enumerate() {
         left |= channel.add::<M>(settings, i, codes[i]);
     }

@@ -1,5 +1,5 @@
-// A chip on the bench, and the handle by which a check that fails ends the test.
-use super::known::{Known, Writes};
+//! A chip on the bench, and the handle by which a check that fails ends the test.
+use crate::known::{Known, Writes};
 use chip::chip::Chip;
 use chip::make::Make;
 use chip::refusal::{Refusal, Who};
@@ -32,20 +32,32 @@ const LATER: [Codes; 4] = [
     Codes { bus: 11, sense: 12 },
 ];
 
+pub(crate) const REFRESH: u8 = 0x00;
+
+pub(crate) const REFRESH_V: u8 = 0x1f;
+
 #[derive(Drop)]
 pub(crate) struct Bench<'a, M, R> {
     pub(crate) rt: &'a R,
     pub(crate) chip: Chip<M>,
 }
 
-impl<'a, M: Make, R: Abort> Bench<'a, M, R> {
-    pub(crate) fn new(rt: &'a R) -> Self {
+impl<'a, M: Make, R> Bench<'a, M, R> {
+    pub(crate) fn new(rt: &'a R) -> Bench<'a, M, R> {
         Bench {
             rt,
             chip: Chip::new(),
         }
     }
 
+    pub(crate) fn cycles(&mut self, n: u32, codes: [Codes; 4]) {
+        for _ in 0..n {
+            self.chip.cycle(codes);
+        }
+    }
+}
+
+impl<M: Make, R: Abort> Bench<'_, M, R> {
     pub(crate) fn write(&mut self, address: u8, bytes: &[u8]) {
         assert_eq!(self.rt; self.chip.write(address, bytes), Ok(()));
     }
@@ -56,18 +68,8 @@ impl<'a, M: Make, R: Abort> Bench<'a, M, R> {
         }
     }
 
-    pub(crate) fn refresh(&mut self) {
-        assert_eq!(self.rt; self.chip.send(0x00), Ok(()));
-    }
-
-    pub(crate) fn refresh_v(&mut self) {
-        assert_eq!(self.rt; self.chip.send(0x1f), Ok(()));
-    }
-
-    pub(crate) fn cycles(&mut self, n: u32, codes: [Codes; 4]) {
-        for _ in 0..n {
-            self.chip.cycle(codes);
-        }
+    pub(crate) fn send(&mut self, command: u8) {
+        assert_eq!(self.rt; self.chip.send(command), Ok(()));
     }
 
     pub(crate) fn read(&self, address: u8, bytes: &mut [u8]) {
@@ -90,14 +92,14 @@ impl<'a, M: Make, R: Abort> Bench<'a, M, R> {
 
 impl<'a, M: Known, R: Abort> Bench<'a, M, R> {
     // A chip with something to see in every register.
-    pub(crate) fn busy(rt: &'a R) -> Self {
+    pub(crate) fn busy(rt: &'a R) -> Bench<'a, M, R> {
         let mut bench = Bench::new(rt);
         let [first, second, pending] = M::SETTINGS;
         bench.write_all(first);
-        bench.refresh();
+        bench.send(REFRESH);
         bench.cycles(4, BUSY);
         bench.write_all(second);
-        bench.refresh();
+        bench.send(REFRESH);
         bench.cycles(1, LATER);
         bench.write_all(pending);
         bench

@@ -1,5 +1,5 @@
-// Cycles under every mask, and registers that run over.
-use crate::bench::Bench;
+//! Cycles under every mask, and registers that run over.
+use crate::bench::{Bench, REFRESH, REFRESH_V};
 use crate::known::Known;
 use chip::state::Codes;
 use makes::pac193x::Pac193x;
@@ -29,10 +29,10 @@ fn every_mask<M: Known>(rt: &impl Abort) {
         for two_way in 0..16 {
             let mut bench: Bench<M, _> = Bench::new(rt);
             M::write_masks(&mut bench, off, two_way);
-            bench.refresh();
+            bench.send(REFRESH);
             bench.cycles(1, on_all(4, 65532));
-            bench.refresh();
-            let counted = if off == 15 { 0 } else { 1 };
+            bench.send(REFRESH);
+            let counted = u64::from(off != 15);
             assert_eq!(rt; bench.number_at(0x02, M::COUNT_WIDTH), counted);
             shows_sums(&bench, off, two_way);
         }
@@ -57,7 +57,7 @@ fn a_sum_runs_over(rt: HostRuntime) {
     assert_eq!(rt; bench.number_at(0x21, 1), 0);
     bench.cycles(1, on_all(65535, 65535));
     assert_eq!(rt; bench.number_at(0x21, 1), 1);
-    bench.refresh();
+    bench.send(REFRESH);
     assert_eq!(rt; bench.number_at(0x03, 6), 265_257_089);
     assert_eq!(rt; bench.number_at(0x24, 1), 1);
     assert_eq!(rt; bench.number_at(0x21, 1), 0);
@@ -68,7 +68,7 @@ fn a_sum_runs_over(rt: HostRuntime) {
 fn a_two_way_sum_runs_under(rt: HostRuntime) {
     let mut bench: Bench<Pac193x, _> = Bench::new(&rt);
     bench.write(0x1d, &[0xf0]);
-    bench.refresh();
+    bench.send(REFRESH);
     bench.cycles(1_048_640, on_all(65535, 32768));
     assert_eq!(rt; bench.number_at(0x21, 1), 0);
     bench.cycles(1, on_all(65535, 32768));
@@ -80,10 +80,10 @@ fn a_count_runs_over(rt: HostRuntime) {
     let mut bench: Bench<Pac193x, _> = Bench::new(&rt);
     bench.cycles(16_777_215, on_all(4, 4));
     assert_eq!(rt; bench.number_at(0x21, 1), 0);
-    bench.refresh_v();
+    bench.send(REFRESH_V);
     assert_eq!(rt; bench.number_at(0x02, 3), 16_777_215);
     bench.cycles(1, on_all(4, 4));
-    bench.refresh_v();
+    bench.send(REFRESH_V);
     assert_eq!(rt; bench.number_at(0x02, 3), 0);
     assert_eq!(rt; bench.number_at(0x24, 1), 1);
 }
@@ -93,9 +93,9 @@ fn a_count_runs_over(rt: HostRuntime) {
 fn a_long_sum_runs_over(rt: HostRuntime) {
     let mut bench: Bench<Pac194x, _> = Bench::new(&rt);
     bench.cycles(67_113_984, on_all(65535, 65535));
-    bench.refresh_v();
+    bench.send(REFRESH_V);
     assert_eq!(rt; bench.number_at(0x26, 3), 0);
     bench.cycles(1, on_all(65535, 65535));
-    bench.refresh_v();
+    bench.send(REFRESH_V);
     assert_eq!(rt; bench.number_at(0x26, 3), 8);
 }

@@ -1,12 +1,12 @@
-// What is known of each make: the registers that it lists, writes that give each something to show, and the bytes that
-// are shown then.
-use super::bench::Bench;
+//! What is known of each make: the registers that it lists, writes that give each something to show, and the bytes that
+//! are shown then.
+use crate::bench::Bench;
 use chip::make::Make;
 use makes::pac193x::Pac193x;
 use makes::pac194x::Pac194x;
 use std::process::Abort;
 
-// Registers from an address to an address, so many bytes each; no range, since a constant's value cannot hold one yet.
+// A row of a register list: the first address, the last, and how many bytes each register has.
 pub(crate) type Listed = (u8, u8, usize);
 
 // Bytes for addresses.

@@ -1,5 +1,5 @@
-// Tests of both chips on examples. Expected bytes were worked out by an independent model (bench/model.py), other
-// figures by hand.
+//! Tests of both chips on examples. Expected bytes were worked out by an independent model (bench/model.py), other
+//! figures by hand.
 #![tactic(auto)]
 
 #[cfg(test)]

@@ -1,4 +1,4 @@
-// Every listed address as a read's start, every unlisted one, and lengths out of limits.
+//! Every listed address as a read's start, every unlisted one, and lengths out of limits.
 use crate::bench::Bench;
 use crate::known::Known;
 use chip::refusal::Refusal;

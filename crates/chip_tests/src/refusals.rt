@@ -1,4 +1,4 @@
-// What the refusals of the tests tell: a number, an address and who refused.
+//! What the refusals of the tests tell: a number, an address and who refused.
 use chip::refusal::{Refusal, Who};
 
 #[test]

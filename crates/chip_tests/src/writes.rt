@@ -1,4 +1,4 @@
-// Writes of every length at every address, and every send. A refused one leaves the chip as it was.
+//! Writes of every length at every address, and every send. A refused one leaves the chip as it was.
 use crate::bench::Bench;
 use crate::known::Known;
 use makes::pac193x::Pac193x;
@@ -26,7 +26,6 @@ fn look<M: Known, R: Abort>(bench: &Bench<M, R>) -> Seen {
 fn refuses_writes<M: Known, R: Abort>(bench: &mut Bench<M, R>) {
     let before = look(bench);
     for address in 0..=255 {
-        // no index: each length is tried
         for len in 0..9 {
             if !M::TAKEN.contains(&(address, len)) {
                 let answer = bench.chip.write(address, &[0x5a; 9][..len]);

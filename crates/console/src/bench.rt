@@ -1,4 +1,4 @@
-// A chip on the bench, behind a scripted wire.
+//! A chip on the bench, behind a scripted wire.
 ghost use Rattle.std.specs.Prelude.{◌≡◌, IfOk};
 ghost use Rattle.arrayvec.specs.ArrayVec.{array_vec_len};
 ghost use Rattle.wire.specs.Scripted.{seen, unplayed};

@@ -1,4 +1,4 @@
-// What a line asks of the bench, read from its word and its fields.
+//! What a line asks of the bench, read from its word and its fields.
 ghost use Rattle.std.specs.Prelude.{◌≡◌, ◌↔◌, length, IsOk};
 
 use chip::refusal::Refusal;

@@ -1,4 +1,4 @@
-// A bench client for the chips: raw transactions and conversion cycles, line by line from standard input.
+//! A bench client for the chips: raw transactions and conversion cycles, line by line from standard input.
 #![tactic(auto)]
 
 mod bench;
@@ -26,7 +26,7 @@ fn main(rt: HostRuntime) -> anyhow::Result<()> {
 }
 
 // With no chip on the bench only a good `kind` line can be read.
-fn run(rt: &HostRuntime, mut input: Input) -> anyhow::Result<()> {
+fn run(rt: &impl Print, mut input: Input) -> anyhow::Result<()> {
     for line in input.by_ref() {
         match line::parse(line).and_then(|said| Kind::try_from(&said)) {
             Ok(Kind::Pac193x) => return serve::<Pac193x>(rt, input),
@@ -38,7 +38,7 @@ fn run(rt: &HostRuntime, mut input: Input) -> anyhow::Result<()> {
 }
 
 // Every line after the `kind` line, for a fresh chip of that make.
-fn serve<M: Make>(rt: &HostRuntime, input: Input) -> anyhow::Result<()> {
+fn serve<M: Make>(rt: &impl Print, input: Input) -> anyhow::Result<()> {
     let mut bench = Bench::new(Direct::<M>::new());
     rt.println(Reply {
         word: "kind",

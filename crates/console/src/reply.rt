@@ -1,4 +1,4 @@
-// What the console prints for a line.
+//! What the console prints for a line.
 ghost use Rattle.std.specs.Prelude.{◌≡◌, Err};
 
 use arrayvec::ArrayVec;

@@ -1,18 +1,18 @@
-// A text cut into lines: only LF ends one, and the last needs none.
+//! A text cut into lines: only LF ends one, and the last needs none.
 ghost use Rattle.std.specs.Prelude.{◌≡◌};
 ghost use Rattle.std.specs.Iterator.{YieldsFirstRef, item_count};
 ghost use Rattle.lines.specs.Cuts.{lines};
 
 use super::mark;
 
-// The lines that are still to come.
+/// The lines that are still to come.
 #[derive(Drop)]
 pub struct Input<'a> {
     rest: &'a [u8],
 }
 
 impl<'a> Input<'a> {
-    pub fn new(text: &'a [u8]) -> Self
+    pub fn new(text: &'a [u8]) -> Input<'a>
         ensures { result.rest.now ≡ text.now }
     {
         Input { rest: text }

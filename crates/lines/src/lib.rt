@@ -1,4 +1,4 @@
-// Lines of text: a word, then decimal fields parted by commas.
+//! Lines of text: a word, then decimal fields parted by commas.
 #![tactic(auto)]
 
 pub mod input;

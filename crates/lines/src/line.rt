@@ -1,4 +1,4 @@
-// One line: its word and its fields.
+//! One line: its word and its fields.
 ghost use Rattle.std.specs.Prelude.{◌≡◌, Some, None, MatchResult};
 ghost use Rattle.chip.specs.declared.refusal.Refusal.TheVariants.{Unreadable};
 ghost use Rattle.lines.specs.Cuts.{pieces_left};
@@ -6,7 +6,6 @@ ghost use Rattle.lines.specs.Lines.{said, few, numbers};
 ghost use Rattle.lines.specs.Numbers.{items};
 
 use super::numbers::Numbers;
-use super::token;
 use super::token::{Token, Tokens};
 use chip::refusal::Refusal;
 
@@ -23,17 +22,17 @@ fn all_numbers(tokens: Tokens) -> Result<Numbers, Refusal>
 {
     let mut fields = Numbers::none();
     for token in tokens {
-        fields.push(token::decimal(token)?)?;
+        fields.push(u16::try_from(token)?)?;
     }
     Ok(fields)
 }
 
-// Reads a line, without its newline.
+/// Reads a line, without its newline.
 #[tactic(auto, using(crate::proofs::Cuts::next_piece, crate::proofs::Pieces::said_is))]
 pub fn parse(line: &[u8]) -> Result<Line<'_>, Refusal>
     ensures { MatchResult result (λ l. said line.now ≡ Some (record { word = l.word.text.now; fields = items l.fields })) (λ e. (e ≡ Unreadable) × (said line.now ≡ None)) }
 {
-    if line.is_empty() || line.len() > 80 {
+    if !(1..=80).contains(&line.len()) {
         return Err(Refusal::Unreadable);
     }
     let mut tokens = Tokens::new(line);

@@ -1,10 +1,10 @@
-// The numbers of a line's fields.
+//! The numbers of a line's fields.
 ghost use Rattle.std.specs.Prelude.{◌≡◌, ℕ, ◌<◌, ◌≤◌, List, [], ◌∷◌, ◌++◌, length, MatchResult};
 ghost use Rattle.chip.specs.declared.refusal.Refusal.TheVariants.{Unreadable};
 
 use chip::refusal::Refusal;
 
-// At most nine: no line takes more. Copied with their line, as an `ArrayVec` can not be.
+/// At most nine: no line takes more. Copied with their line, as an `ArrayVec` can not be.
 #[derive(Clone, Copy)]
 pub struct Numbers {
     values: [u16; 9],
@@ -24,7 +24,7 @@ impl Numbers {
         }
     }
 
-    // One number more, or a refusal where there are nine.
+    /// One number more, or a refusal where there are nine.
     pub fn push(&mut self, n: u16) -> Result<(), Refusal>
         ensures cases { MatchResult result (λ _. items self.new ≡ items self.old ++ n ∷ []) (λ e. (e ≡ Unreadable) × (self.new ≡ self.old) × (length (items self.old) ≡ 9)) }
     {

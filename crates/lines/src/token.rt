@@ -1,4 +1,4 @@
-// A line's pieces between commas, as tokens that borrow their bytes from the line and know their place in it.
+//! A line's pieces between commas, as tokens that borrow their bytes from the line and know their place in it.
 ghost use Rattle.std.specs.Prelude.{◌≡◌, ◌+◌, ◌<◌, ◌^◌};
 ghost use Rattle.std.specs.Char.{is_ascii_digit};
 ghost use Rattle.std.specs.List.{list_all};
@@ -12,11 +12,11 @@ use std::str;
 #[derive(Clone, Copy)]
 pub struct Token<'a> {
     pub text: &'a [u8],
-    // where the token starts in its line
+    /// where the token starts in its line
     pub place: usize,
 }
 
-// The tokens that are still to come.
+/// The tokens that are still to come.
 #[derive(Drop)]
 pub struct Tokens<'a> {
     // what comes after the last comma that was passed; none after the last token
@@ -30,7 +30,7 @@ pub struct Tokens<'a> {
 impl<'a> Tokens<'a> {
     ghost use Rattle.lines.specs.Tokens.{tokens_left};
 
-    pub fn new(line: &'a [u8]) -> Self
+    pub fn new(line: &'a [u8]) -> Tokens<'a>
         ensures { tokens_left result ≡ placed 0 (pieces line.now) }
     {
         Tokens {
@@ -60,7 +60,7 @@ impl<'a> Iterator for Tokens<'a> {
     }
 }
 
-// `parse` would take a `+` too.
+// Whether all bytes are digits: `parse` would take a `+` too.
 fn is_decimal(text: &[u8]) -> bool
     ensures { result ≡ list_all is_ascii_digit text.now }
 {
@@ -68,14 +68,18 @@ fn is_decimal(text: &[u8]) -> bool
 }
 
 // A field's number: one to five digits, at most 65,535.
-#[tactic(auto, using(crate::proofs::Decimals::digits_are_text))]
-pub fn decimal(token: Token) -> Result<u16, Refusal>
-    ensures { result ≡ field_of token.entry.text.now }
-{
-    let text = token.text;
-    if text.len() > 5 || !is_decimal(text) {
-        return Err(Refusal::Unreadable);
+impl TryFrom<Token<'_>> for u16 {
+    type Error = Refusal;
+
+    ghost try_from_gives = { λ token number. number ≡ field_of token.text.now };
+
+    #[tactic(auto, using(crate::proofs::Decimals::digits_are_text))]
+    fn try_from(token: Token) -> Result<u16, Refusal> {
+        let text = token.text;
+        if text.len() > 5 || !is_decimal(text) {
+            return Err(Refusal::Unreadable);
+        }
+        let digits = str::from_utf8(text).map_err(|_| Refusal::Unreadable)?;
+        digits.parse().map_err(|_| Refusal::Unreadable)
     }
-    let digits = str::from_utf8(text).map_err(|_| Refusal::Unreadable)?;
-    digits.parse().map_err(|_| Refusal::Unreadable)
 }

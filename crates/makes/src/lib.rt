@@ -1,4 +1,4 @@
-// The makes PAC193X and PAC194X.
+//! The makes PAC193X and PAC194X.
 #![tactic(auto)]
 
 pub mod pac193x;

@@ -1,4 +1,4 @@
-// The PAC193X.
+//! The PAC193X.
 ghost use Rattle.std.specs.Prelude.{◌≡◌};
 ghost use Rattle.makes.specs.Pac193x.{pac193x, flagged};
 ghost use Rattle.makes.specs.Lawful193x.{lawful_193x};

@@ -1,4 +1,4 @@
-// The PAC194X.
+//! The PAC194X.
 ghost use Rattle.std.specs.Prelude.{◌≡◌, ◌/◌, ◌%◌, ◌<◌, ◌==◌};
 ghost use Rattle.makes.specs.Pac194x.{pac194x, flags_194x};
 ghost use Rattle.makes.specs.Lawful194x.{lawful_194x};

@@ -1,4 +1,4 @@
-// What the register tables of the PAC193X and the PAC194X have in common.
+//! What the register tables of the PAC193X and the PAC194X have in common.
 ghost use Rattle.std.specs.Prelude.{◌≡◌, ◌/◌, pos, ◌*ℤ◌};
 ghost use Rattle.chip.specs.Registers.{bits_of};
 ghost use Rattle.makes.specs.Table.{image_shows, a_command, product};

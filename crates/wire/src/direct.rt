@@ -1,4 +1,4 @@
-// The direct wire to a chip.
+//! The direct wire to a chip.
 ghost use Rattle.std.specs.Prelude.{◌≡◌};
 ghost use Rattle.chip.specs.Chip.{fresh_chip};
 ghost use Rattle.wire.specs.Direct.{DirectGoes, DirectPasses};
@@ -16,7 +16,7 @@ pub struct Direct<M> {
 }
 
 impl<M: Make> Direct<M> {
-    // A wire to a fresh chip.
+    /// A wire to a fresh chip.
     pub fn new() -> Direct<M>
         ensures { result.chip.state ≡ fresh_chip M.Make.sheet }
     {

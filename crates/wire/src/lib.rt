@@ -1,4 +1,4 @@
-// Wires to a chip: what every wire means, the direct wire, and the scripted wire over any wire.
+//! Wires to a chip: what every wire means, the direct wire, and the scripted wire over any wire.
 #![tactic(auto)]
 
 pub mod direct;

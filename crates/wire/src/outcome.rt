@@ -1,4 +1,4 @@
-// What a scripted wire does with one transaction.
+//! What a scripted wire does with one transaction.
 ghost use Rattle.std.specs.Prelude.{◌≡◌, ok_or};
 ghost use Rattle.chip.specs.declared.refusal.Refusal.TheVariants.{Limits};
 ghost use Rattle.wire.specs.Scripts.{outcome_of};
@@ -7,13 +7,13 @@ use chip::refusal::Refusal;
 
 #[derive(Clone, Copy, Debug, PartialEq, Eq)]
 pub enum Outcome {
-    // 0: passed on
+    /// 0: passed on
     Pass,
-    // 1: not acknowledged, and not passed on
+    /// 1: not acknowledged, and not passed on
     Refuse,
-    // 2: broken before the wire below
+    /// 2: broken before the wire below
     Break,
-    // 3: passed on, and broken: the reply is dropped
+    /// 3: passed on, and broken: the reply is dropped
     DropReply,
 }
 

@@ -1,11 +1,11 @@
-// A script of outcomes, and how they are added and taken.
+//! A script of outcomes, and how they are added and taken.
 ghost use Rattle.std.specs.Prelude.{◌≤◌};
 
 use super::outcome::Outcome;
 use chip::refusal::Refusal;
 
-// 256 outcomes, at first all pass: those up to `added` were added, those up to `taken` are used up.
-// A plain table, as a wire has no heap. It has no model: that would hide what is not yet added, which a clause names.
+/// 256 outcomes, at first all pass: those up to `added` were added, those up to `taken` are used up.
+/// A plain table with two places in it, and no `ArrayVec` or model: `new` promises that all 256 pass, those not yet added too.
 #[derive(Drop)]
 pub struct Script {
     outcomes: [Outcome; 256],
@@ -32,12 +32,12 @@ impl Script {
         }
     }
 
-    // Adds the outcome of a number at the end: 0 to 3, and 256 in all.
+    /// Adds the outcome of a number at the end: 0 to 3, and 256 in all. The number is unchecked, and a wrong one is refused first.
     pub fn add(&mut self, number: u8) -> Result<(), Refusal>
         ensures { added_to self.old number result self.new }
     {
         let outcome = Outcome::try_from(number)?;
-        if self.added == 256 {
+        if self.added == self.outcomes.len() {
             return Err(Refusal::Full);
         }
         self.outcomes[self.added] = outcome;
@@ -45,7 +45,7 @@ impl Script {
         Ok(())
     }
 
-    // The oldest outcome that is left, which is used up; with none left it is to pass.
+    /// The oldest outcome that is left, which is used up; with none left it is to pass.
     pub fn take(&mut self) -> Outcome
         ensures value { result ≡ next (left self.old) }
         ensures after { left self.new ≡ rest (left self.old) }

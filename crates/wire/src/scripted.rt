@@ -1,4 +1,4 @@
-// A wire over any wire that fails as its script says.
+//! A wire over any wire that fails as its script says.
 ghost use Rattle.std.specs.Fn.{FnOnceReturnsAtMut};
 ghost use Rattle.std.specs.Prelude.{◌≡◌, ◌≤◌};
 ghost use Rattle.chip.specs.Chip.{read};
@@ -10,7 +10,7 @@ ghost use Rattle.wire.specs.Wire.{Transacted};
 use super::outcome::Outcome;
 use super::script::Script;
 use super::wire::Wire;
-use chip::chip::LONGEST_READ;
+use chip::chip::{LONGEST_READ, is_readable};
 use chip::refusal::{Refusal, Who};
 use chip::state::Codes;
 
@@ -21,7 +21,7 @@ pub struct Scripted<W> {
 }
 
 impl<W> Scripted<W> {
-    // Over a wire, with no outcome added.
+    /// Over a wire, with no outcome added.
     pub fn new(below: W) -> Scripted<W>
         ensures { seen result ≡ unplayed below }
     {
@@ -31,7 +31,7 @@ impl<W> Scripted<W> {
         }
     }
 
-    // Adds an outcome: 0 to 3, and 256 in all.
+    /// Adds an outcome: 0 to 3, and 256 in all.
     pub fn add(&mut self, number: u8) -> Result<(), Refusal>
         ensures below { self.new.below ≡ self.old.below }
         ensures added { added_to self.old.script number result self.new.script }
@@ -79,7 +79,7 @@ impl<W: Wire> Wire for Scripted<W> {
 
     fn read(&mut self, start: u8, bytes: &mut [u8]) -> Result<(), Refusal> {
         let length = bytes.len();
-        if !(1..=LONGEST_READ).contains(&length) {
+        if !is_readable(length) {
             return Err(Refusal::Limits);
         }
         // The reply has bytes of its own, which are the caller's only once they are answered.

@@ -1,4 +1,4 @@
-// Tests of the wires on examples; expected answers are worked out by hand from the rules of the outcomes.
+//! Tests of the wires on examples; expected answers are worked out by hand from the rules of the outcomes.
 #![tactic(auto)]
 
 #[cfg(test)]

@@ -1,28 +1,41 @@
-// Every outcome on read, write and send, for requests that the chip takes and for those that it refuses.
+//! Every outcome on read, write and send, for requests that the chip takes and for those that it refuses.
 use chip::refusal::{Refusal, Who};
 use chip::state::Codes;
 use makes::pac193x::Pac193x;
 use std::process::Abort;
 use wire::direct::Direct;
+use wire::outcome::Outcome;
 use wire::scripted::Scripted;
 use wire::wire::Wire;
 
 pub(crate) type Bench = Scripted<Direct<Pac193x>>;
 
-// A bench whose next transaction meets this outcome.
-pub(crate) fn bench(rt: &impl Abort, outcome: u8) -> Bench {
+pub(crate) const OUTCOMES: [(u8, Outcome); 4] = [
+    (0, Outcome::Pass),
+    (1, Outcome::Refuse),
+    (2, Outcome::Break),
+    (3, Outcome::DropReply),
+];
+
+// A bench whose next transaction meets the outcome of this number.
+fn bench(rt: &impl Abort, number: u8) -> Bench {
     let mut wire: Bench = Scripted::new(Direct::new());
-    assert_eq!(rt; wire.add(outcome), Ok(()));
+    assert_eq!(rt; wire.add(number), Ok(()));
     wire
 }
 
+// Whether a request reaches the chip.
+fn is_carried(outcome: Outcome) -> bool {
+    matches!(outcome, Outcome::Pass | Outcome::DropReply)
+}
+
 // What an outcome makes of a request at an address, by whether the chip takes it.
-pub(crate) fn expected(outcome: u8, address: u8, taken: bool) -> Result<(), Refusal> {
+pub(crate) fn expected(outcome: Outcome, address: u8, taken: bool) -> Result<(), Refusal> {
     match outcome {
-        0 if taken => Ok(()),
-        0 => Err(Refusal::NotAcknowledged(Who::Chip, address)),
-        1 => Err(Refusal::NotAcknowledged(Who::Wire, address)),
-        _ => Err(Refusal::Broken(address)),
+        Outcome::Pass if taken => Ok(()),
+        Outcome::Pass => Err(Refusal::NotAcknowledged(Who::Chip, address)),
+        Outcome::Refuse => Err(Refusal::NotAcknowledged(Who::Wire, address)),
+        Outcome::Break | Outcome::DropReply => Err(Refusal::Broken(address)),
     }
 }
 
@@ -35,9 +48,9 @@ pub(crate) fn shown(rt: &impl Abort, wire: &mut impl Wire, address: u8) -> u8 {
 
 #[test]
 fn reads(rt: HostRuntime) {
-    for outcome in 0..4 {
+    for (number, outcome) in OUTCOMES {
         for address in [0x21, 0x1b, 0x00] {
-            let mut wire = bench(&rt, outcome);
+            let mut wire = bench(&rt, number);
             let mut bytes = [0xaa; 2];
             let answer = wire.read(address, &mut bytes);
             assert_eq!(rt; answer, expected(outcome, address, address == 0x21));
@@ -48,15 +61,14 @@ fn reads(rt: HostRuntime) {
 
 #[test]
 fn writes(rt: HostRuntime) {
-    for outcome in 0..4 {
-        let mut wire = bench(&rt, outcome);
+    for (number, outcome) in OUTCOMES {
+        let mut wire = bench(&rt, number);
         assert_eq!(rt; wire.write(0x1c, &[0x50]), expected(outcome, 0x1c, true));
-        let carried = matches!(outcome, 0 | 3);
         assert_eq!(rt;
             shown(&rt, &mut wire, 0x1c),
-            if carried { 0x50 } else { 0x00 }
+            if is_carried(outcome) { 0x50 } else { 0x00 }
         );
-        let mut wire = bench(&rt, outcome);
+        let mut wire = bench(&rt, number);
         assert_eq!(rt;
             wire.write(0x1c, &[0x50, 0x51]),
             expected(outcome, 0x1c, false)
@@ -67,17 +79,16 @@ fn writes(rt: HostRuntime) {
 
 #[test]
 fn sends(rt: HostRuntime) {
-    for outcome in 0..4 {
-        let mut wire = bench(&rt, outcome);
+    for (number, outcome) in OUTCOMES {
+        let mut wire = bench(&rt, number);
         assert_eq!(rt; wire.write(0x1c, &[0x50]), expected(outcome, 0x1c, true));
-        assert_eq!(rt; wire.add(outcome), Ok(()));
+        assert_eq!(rt; wire.add(number), Ok(()));
         assert_eq!(rt; wire.send(0x00), expected(outcome, 0x00, true));
-        let carried = matches!(outcome, 0 | 3);
         assert_eq!(rt;
             shown(&rt, &mut wire, 0x22),
-            if carried { 0x50 } else { 0x00 }
+            if is_carried(outcome) { 0x50 } else { 0x00 }
         );
-        assert_eq!(rt; wire.add(outcome), Ok(()));
+        assert_eq!(rt; wire.add(number), Ok(()));
         assert_eq!(rt; wire.send(0x1e), expected(outcome, 0x1e, false));
     }
 }

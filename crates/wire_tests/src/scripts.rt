@@ -1,5 +1,5 @@
-// How much a script takes, in which order, and scripts over scripts.
-use crate::outcomes::{Bench, expected, shown};
+//! How much a script takes, in which order, and scripts over scripts.
+use crate::outcomes::{Bench, OUTCOMES, expected, shown};
 use chip::refusal::{Refusal, Who};
 use makes::pac193x::Pac193x;
 use wire::direct::Direct;
@@ -11,13 +11,17 @@ use wire::wire::Wire;
 fn a_full_script(rt: HostRuntime) {
     let mut wire: Bench = Scripted::new(Direct::new());
     assert_eq!(rt; wire.add(4), Err(Refusal::Limits));
-    for i in 0..=255u8 {
-        assert_eq!(rt; wire.add(i % 4), Ok(()));
+    for _ in 0..64 {
+        for (number, _) in OUTCOMES {
+            assert_eq!(rt; wire.add(number), Ok(()));
+        }
     }
     assert_eq!(rt; wire.add(0), Err(Refusal::Full));
     assert_eq!(rt; wire.add(4), Err(Refusal::Limits));
-    for i in 0..=255u8 {
-        assert_eq!(rt; wire.send(0x1f), expected(i % 4, 0x1f, true));
+    for _ in 0..64 {
+        for (_, outcome) in OUTCOMES {
+            assert_eq!(rt; wire.send(0x1f), expected(outcome, 0x1f, true));
+        }
     }
     assert_eq!(rt; wire.add(0), Err(Refusal::Full));
     assert_eq!(rt; wire.send(0x1f), Ok(()));

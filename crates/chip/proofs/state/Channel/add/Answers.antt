@@ -9,7 +9,7 @@ pub returns : goal.returns
 returns g c =
     let m = g.M.Make.sheet in
     let s = c.args.settings in
-    let i = c.args.i in
+    let i = c.args.channel in
     let k = c.args.codes in
     let ch = c.args.self.now in
     let p = c.product-product.result in

@@ -2,7 +2,7 @@ use Rattle.std.proofs.Common.{◌≡◌, true, arith, rules}
 use Rattle.std.specs.Char.{is_ascii_digit}
 use Rattle.std.specs.List.{list_all}
 use Rattle.lines.proofs.Decimals.{field_is}
-use Rattle.lines.proofs.token.decimal.Goals as goal
+use Rattle.lines.proofs.token.U16TryFromToken.try_from.Goals as goal
 
 pub returns : goal.returns
 returns c =
