@@ -10,7 +10,8 @@ use Rattle.account.proofs.Talks.{Standing, mk}
 use Rattle.account.specs.Dialogue.{Condition, Meter, in_doubt, ready, slip_out, unfinished}
 use Rattle.account.specs.History.{Closed, Fate, History, Stretch, got_entry, waits, was_lost, was_written_off, with_fate}
 use Rattle.chip.specs.Laws.{Every, Lawful}
-use Rattle.chip.specs.Datasheet.{Entry, Datasheet, Wanted}
+use Rattle.chip.specs.Datasheet.{Datasheet, Wanted}
+use Rattle.chip.specs.declared.entry.Entry.{Entry}
 use Rattle.chip.specs.declared.state.State.{State}
 use Rattle.chip.specs.declared.state.Image.{Image}
 use Rattle.chip.specs.Registers.{number}

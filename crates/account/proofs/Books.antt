@@ -1,9 +1,10 @@
 -- A book keeps what it holds.
 use Rattle.std.proofs.Common.{◌≡◌, ℕ, zero, suc, ◌<◌, ◌≤◌, List, [], ◌∷◌, ◌++◌, length, get_or, take, set, sym, refl, ap, ◌∙◌, add-one, arith}
-use Rattle.account.specs.Book.{Book, BooksKeep, KeptWell, book_after, entries}
+use Rattle.account.specs.Book.{BooksKeep, KeptWell, book_after}
+use Rattle.book.specs.Book.{Pages, entries}
 use Rattle.account.specs.Dialogue.{Answer, billed, entered, given_up, handed, looked, refused, stored}
 use Rattle.account.specs.History.{entries_after}
-use Rattle.chip.specs.Datasheet.{Entry}
+use Rattle.chip.specs.declared.entry.Entry.{Entry}
 
 put_take : (xs : List Entry) (n : ℕ) (e : Entry) → n < length xs → take (suc n) (set xs n e) ≡ take n xs ++ e ∷ []
 put_take [] n e l = absurd (omega arith)
@@ -28,17 +29,17 @@ taken_many [] (suc n) l = absurd (omega arith)
 taken_many (x ∷ xs) zero l = refl
 taken_many (x ∷ xs) (suc n) l = ap suc (taken_many xs n (omega arith))
 
-put_kept : (e : Entry) (b : Book) → b.filled < length b.places → KeptWell (entered e) b
+put_kept : (e : Entry) (b : Pages) → b.filled < length b.places → KeptWell (entered e) b
 put_kept e b l = record {
   the_entries = ap (λ n. take n (set b.places b.filled e)) (add-one b.filled) ∙ put_take b.places b.filled e l;
   as_many = set_length b.places b.filled e;
   others = λ i d ne. set_other b.places b.filled e i d ne;
 }
 
-left_kept : (b : Book) (r : Answer) → book_after r b ≡ b → entries_after r (entries b) ≡ entries b → KeptWell r b
+left_kept : (b : Pages) (r : Answer) → book_after r b ≡ b → entries_after r (entries b) ≡ entries b → KeptWell r b
 left_kept b r p q = record { the_entries = ap entries p ∙ sym q; as_many = ap (λ x. length x.places) p; others = λ i e ne. ap (λ x. get_or x.places i e) p }
 
-kept : (r : Answer) (b : Book) → b.filled < length b.places → KeptWell r b
+kept : (r : Answer) (b : Pages) → b.filled < length b.places → KeptWell r b
 kept (entered e) b l = put_kept e b l
 kept stored b l = left_kept b stored refl refl
 kept (handed p) b l = left_kept b (handed p) refl refl

@@ -3,7 +3,7 @@ use Rattle.std.proofs.Common.{◌≡◌, ℕ, zero, suc, ◌+◌, ◌^◌, ◌<�
 use Rattle.std.proofs.lemmas.Bool.{both_ways, cases_Bool, eq-eqb, le-leb, lt-ltb, ltb-false}
 use Rattle.chip.proofs.Ranges.{value_in_range, zero_value}
 use Rattle.account.proofs.Tracking.{Tracks}
-use Rattle.account.specs.Bill.{holds, sums_hold}
+use Rattle.book.specs.Bill.{holds, sums_hold}
 use Rattle.chip.specs.Chip.{cleared, entry_of, spoilt, sums_of, zeroed}
 use Rattle.account.specs.History.{Moment, Stretch, left_range}
 use Rattle.chip.specs.Laws.{EmptyFrom, Every, Lawful, Sound}

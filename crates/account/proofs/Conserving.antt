@@ -7,7 +7,8 @@ use Rattle.account.proofs.Keeping.{Kept, front}
 use Rattle.chip.specs.Chip.{entry_of}
 use Rattle.account.specs.History.{Account, Closed, Fate, History, Stretch, account, booked, carried_out, cycle_came, got_entry, is_refresh, left_range, overtaken, settled, sum_over, waits, was_lost, was_written_off, written_off}
 use Rattle.chip.specs.Laws.{Every}
-use Rattle.chip.specs.Datasheet.{Entry, Datasheet, Wanted}
+use Rattle.chip.specs.Datasheet.{Datasheet, Wanted}
+use Rattle.chip.specs.declared.entry.Entry.{Entry}
 use Rattle.chip.specs.declared.state.State.{State}
 use Rattle.account.specs.Statements.{Conserved, Fated, Matches, all_products, entry_total, given, part_total, waiting_total, written_off_total}
 

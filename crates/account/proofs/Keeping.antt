@@ -3,11 +3,13 @@ use Rattle.std.proofs.Common.{◌≡◌, ℕ, ◌+◌, ◌^◌, ◌<◌, ◌≤�
 use Rattle.std.proofs.lemmas.List.{append-nil, length-append}
 use Rattle.account.proofs.Closing.{image_holds, tracks_match, zeroed_sound, zeroed_tracks}
 use Rattle.account.proofs.Tracking.{Tracks, cycle_sound, cycle_tracks, cycled_keeps}
-use Rattle.account.specs.Bill.{holds}
+use Rattle.book.specs.Bill.{holds}
 use Rattle.chip.specs.Chip.{Request, cycled, does, entry_of, fresh_chip, idle, latched, reacts, refreshed, with_held}
+use Rattle.account.specs.Dialogue.{book}
 use Rattle.account.specs.History.{Closed, Fate, Happening, History, Moment, Stretch, account, booked, carried_out, chip_after, chip_then, closes_on, cycle_came, cycle_on, got_entry, is_refresh, overtaken, settled, waits, was_lost, was_written_off, written_off}
 use Rattle.chip.specs.Laws.{Every, Lawful, Sound, all_zero}
-use Rattle.chip.specs.Datasheet.{Entry, Datasheet, Wanted}
+use Rattle.chip.specs.Datasheet.{Datasheet, Wanted}
+use Rattle.chip.specs.declared.entry.Entry.{Entry}
 use Rattle.chip.specs.declared.state.State.{State}
 use Rattle.chip.specs.declared.state.Codes.{Codes}
 use Rattle.chip.specs.declared.state.Held.{Held}

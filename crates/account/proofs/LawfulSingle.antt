@@ -6,7 +6,8 @@ use Rattle.chip.proofs.Ranges.{zero_value}
 use Rattle.account.proofs.Tracking.{four_of}
 use Rattle.chip.specs.Chip.{channel, entry_of, reply}
 use Rattle.chip.specs.Laws.{EmptyFrom, Every, Lawful, Means, Readable, Writable, replies, written}
-use Rattle.chip.specs.Datasheet.{Entry, Wanted, meaning}
+use Rattle.chip.specs.Datasheet.{Wanted, meaning}
+use Rattle.chip.specs.declared.entry.Entry.{Entry}
 use Rattle.chip.specs.declared.state.Channel.{Channel}
 use Rattle.chip.specs.declared.state.State.{State}
 use Rattle.chip.specs.declared.state.Held.{Held}
@@ -37,7 +38,7 @@ way_shown n = ap (λ x. bit (eqb x 1) * 8) (low n)
     low : (n : ℕ) → (((n / 1) % 256 * 1 + 0) / 4) % 4 ≡ (n / 4) % 4
     low n = omega arith
 
-flags_shown : (f g : Bool) → bit (leb 1 ((((bit f * 8 + bit g * 4) / 1) % 256 / 4) % 4)) ≡ bit (f || g)
+flags_shown : (f g : Bool) → bit (leb 1 ((number (big_endian 2 (bit f * 8 + bit g * 4)) / 4) % 4)) ≡ bit (f || g)
 flags_shown true true = refl
 flags_shown true false = refl
 flags_shown false true = refl
@@ -163,4 +164,8 @@ lawful_single = record {
       (two_bytes (image_sense 0 c.image)) ch l u;
   polarity_readable = (omega arith, omega arith, omega arith, omega arith);
   polarity_read = λ c. way_shown c.image.settings.polarity;
+  few_replies = omega arith;
+  mark_short = omega arith;
+  polarity_short = omega arith;
+  tariff_fits = (omega arith, omega arith);
 }

@@ -17,3 +17,4 @@ pub mod Spoils
 pub mod Named
 pub mod Books
 pub mod Reading
+pub mod Exact

@@ -1,22 +1,23 @@
 -- What holds of each call by itself.
-use Rattle.std.proofs.Common.{◌≡◌, ℕ, zero, suc, ◌+◌, ◌-◌, ◌*◌, ◌≤◌, Bool, true, false, cond, not, ◌&&◌, eqb, leb, ◌⊎◌, List, [], ◌∷◌, length, ℤ, Some, None, Option, sym, refl, ap, ◌∙◌, ap₂, inl, inr, arith}
+use Rattle.std.proofs.Common.{◌≡◌, ℕ, zero, suc, ◌+◌, ◌-◌, ◌*◌, ◌≤◌, Bool, true, false, cond, not, ◌&&◌, eqb, leb, ◌⊎◌, List, [], ◌∷◌, ◌++◌, length, ℤ, Some, None, Option, sym, refl, ap, ◌∙◌, subst, ap₂, inl, inr, arith}
 use Rattle.std.proofs.lemmas.List.{append-nil}
 use Rattle.std.proofs.lemmas.Bool.{and_parts, both_ways, cond_both, eqb-false, eqb-true, leb-true}
 use Rattle.account.proofs.Walks.{does_refresh, does_refresh_v, went_exactly, went_read, went_write}
 use Rattle.account.proofs.Ways.{All, Wq, all_cond, followed, map_all, walked_to, wq_by, wq_cond}
-use Rattle.account.specs.Bill.{Bill, WeightsMeant, bill_limits, bill_of, cycles_a_second, first_bad, no_bill, weight}
+use Rattle.book.specs.Bill.{Bill, bill_limits, bill_of, first_bad, no_bill}
 use Rattle.chip.specs.Chip.{Request, address_of, latched, read, refreshed, reply, send, with_held, write}
-use Rattle.account.specs.Dialogue.{Answer, Call, Condition, Meter, Way, asks, asks_mark, bill_answer, bill_for, billed, bills, book, book_limits, closes, dialogue, draw, draws_at, entered, enters, fits_slip, gathers, given_up, handed, hands, if_numbers_left, in_doubt, look, look_limits, looked, looks_at, millivolts, or_fails, ready, refreshes, refused, sees, set_up, sets, slip_out, stored, unfinished, unlike, volts, write_off}
+use Rattle.account.specs.Dialogue.{Answer, Call, Condition, Meter, Way, asks, asks_mark, at, bill_answer, bill_for, billed, bills, book, book_limits, closes, dialogue, draw, draws_at, Follows, looks, entered, enters, fits_slip, gathers, given_up, handed, hands, if_numbers_left, in_doubt, look, look_limits, looked, looks_at, millivolts, or_fails, ready, refreshes, refused, sees, set_up, sets, slip_out, stored, unfinished, unlike, volts, write_off}
 use Rattle.chip.specs.Laws.{Lawful, Means, written}
-use Rattle.chip.specs.Datasheet.{Entry, Datasheet, Wanted, meaning}
+use Rattle.chip.specs.Datasheet.{Datasheet, Wanted, meaning}
+use Rattle.chip.specs.declared.entry.Entry.{Entry}
 use Rattle.chip.specs.declared.refusal.Refusal.{Refusal}
 use Rattle.chip.specs.declared.refusal.Refusal.TheVariants.{BadEntry, Broken, Full, Limits, NotAcknowledged, NoSlip, NotReady, SlipOut, NumbersSpent, Unreadable, WrongSlip}
 use Rattle.chip.specs.declared.state.State.{State}
 use Rattle.chip.specs.declared.state.Held.{Held}
 use Rattle.chip.specs.Registers.{in_mask, number}
-use Rattle.account.specs.Statements.{BookGrows, EveryCall, Five, LooksTrue, Obeys, OnlyLastFailed, Owns, Progress, RefusalsOwned, Seen, all_answered, latest_bus, latest_sense, refresh_carried}
+use Rattle.account.specs.Statements.{BookGrows, EveryCall, Five, LooksTrue, Obeys, OnlyLastFailed, Owns, Progress, RefusalsOwned, Seen, WordKept, all_answered, latest_bus, latest_sense, refresh_carried}
 use Rattle.wire.specs.Wire.{Reply, answered, broken, unacknowledged}
-use Rattle.account.specs.Steps.{Step}
+use Rattle.account.specs.Steps.{Along, Step}
 
 module _ (m : Datasheet) where
   -- REFUSALS
@@ -83,10 +84,10 @@ module _ (m : Datasheet) where
   sets_late t [] = asks_late (send m.refresh) t unfinished in_doubt (λ bs. hands t) (λ bs. tt)
   sets_late t (p ∷ ps) = asks_late (write p.0 p.1) t unfinished unfinished (λ bs. sets m t ps) (λ bs. sets_late t ps)
 
-  gathers_late : (t : Meter) (ps : List (ℕ × ℕ)) (f : List (List ℕ) → Way) → ((rs : List (List ℕ)) → All Late (f rs)) → All Late (gathers t ps f)
+  gathers_late : (t : Meter) (ps : List (ℕ × ℕ)) (f : List ℕ → Way) → ((rs : List ℕ) → All Late (f rs)) → All Late (gathers t ps f)
   gathers_late t [] f p = p []
   gathers_late t (x ∷ ps) f p =
-      asks_late (read x.0 x.1) t t.condition t.condition (λ bs. gathers t ps (λ rs. f (bs ∷ rs))) (λ bs. gathers_late t ps (λ rs. f (bs ∷ rs)) (λ rs. p (bs ∷ rs)))
+      asks_late (read x.0 x.1) t t.condition t.condition (λ bs. gathers t ps (λ rs. f (bs ++ rs))) (λ bs. gathers_late t ps (λ rs. f (bs ++ rs)) (λ rs. p (bs ++ rs)))
 
   sees_late : (t : Meter) (ch q : ℕ) → All Late (sees m t ch q)
   sees_late t ch q =
@@ -145,7 +146,7 @@ module _ (m : Datasheet) where
     draws_owned unfinished = numbers_owned (refreshes m t) refreshes_late
     draws_owned in_doubt =
         numbers_owned (asks_mark m t) (asks_late (read m.mark_at.0 m.mark_at.1) t in_doubt in_doubt _
-        (λ bs. all_cond Late (unlike t.mark (m.mark_in bs)) _ _ tt refreshes_late))
+        (λ bs. all_cond Late (unlike t.mark (m.mark_in (number bs))) _ _ tt refreshes_late))
     draws_owned (slip_out n) = (refl, refl)
 
     looks_owned : (ch q : ℕ) (k : Condition) → All (Owned t) (looks_at m t ch q k)
@@ -207,7 +208,7 @@ module _ (m : Datasheet) where
         all_cond (Within 5) (eqb t.last 4294967295) _ (refreshes m t) (omega arith) (map_all (refreshes m t) (Within 4) (Within 5) (λ ss a le. omega arith) refreshes_within)
     draws_within in_doubt =
         all_cond (Within 5) (eqb t.last 4294967295) _ (asks_mark m t) (omega arith) (asks_within 4 (read m.mark_at.0 m.mark_at.1) t in_doubt in_doubt m.mark_at.0 _
-        (λ bs. all_cond (Within 4) (unlike t.mark (m.mark_in bs)) (hands t) (refreshes m t) (omega arith) refreshes_within))
+        (λ bs. all_cond (Within 4) (unlike t.mark (m.mark_in (number bs))) (hands t) (refreshes m t) (omega arith) refreshes_within))
     draws_within (slip_out n) = omega arith
 
   five : Lawful m → Five m
@@ -239,7 +240,7 @@ module _ (m : Datasheet) where
     draws_well unfinished = numbers_well (refreshes m t) (sets_well (m.settings_writes t.wanted (not t.mark)))
     draws_well in_doubt =
         numbers_well (asks_mark m t) (asks_well (read m.mark_at.0 m.mark_at.1) in_doubt in_doubt m.mark_at.0 _
-        (λ bs. all_cond GoesWell (unlike t.mark (m.mark_in bs)) (hands t) (refreshes m t) (λ every. inr (inr refl))
+        (λ bs. all_cond GoesWell (unlike t.mark (m.mark_in (number bs))) (hands t) (refreshes m t) (λ every. inr (inr refl))
         (sets_well (m.settings_writes t.wanted (not t.mark)))))
     draws_well (slip_out n) = λ every. inl refl
 
@@ -303,7 +304,7 @@ module _ (m : Datasheet) where
     bus_seen : q ≡ 0 → volts (number (reply m (latched c) (m.code_at ch q) 2)) ≡ volts (latest_bus m c (ch - 1))
     bus_seen e = ap volts (ap (λ x. number (reply m (latched c) (m.code_at ch x) 2)) e ∙ law.bus_read (latched c) ch low high)
 
-    sense_seen : q ≡ 1 → millivolts (in_mask (m.two_way_in (reply m (latched c) m.polarity_at.0 m.polarity_at.1)) (ch - 1))
+    sense_seen : q ≡ 1 → millivolts (in_mask (m.two_way_in (number (reply m (latched c) m.polarity_at.0 m.polarity_at.1))) (ch - 1))
         (number (reply m (latched c) (m.code_at ch q) 2)) ≡ millivolts (in_mask (m.two_way c.active) (ch - 1)) (latest_sense m c (ch - 1))
     sense_seen e = ap₂ (λ w n. millivolts (in_mask w (ch - 1)) n) (law.polarity_read (latched c)) (ap (λ x. number (reply m (latched c) (m.code_at ch x) 2)) e
         ∙ law.sense_read (latched c) ch low high)
@@ -357,12 +358,16 @@ book_grows (looked g) es = ([], sym (append-nil es), omega arith)
 book_grows (billed z n k) es = ([], sym (append-nil es), omega arith)
 book_grows (refused r) es = ([], sym (append-nil es), omega arith)
 
-pub weights_meant : WeightsMeant
-weights_meant = record { time = by_rate; double = λ r. omega arith }
-  where
-    by_rate : (r : ℕ) → r ≤ 3 → weight r false * cycles_a_second r ≡ 1024
-    by_rate zero l = refl
-    by_rate (suc zero) l = refl
-    by_rate (suc (suc zero)) l = refl
-    by_rate (suc (suc (suc zero))) l = refl
-    by_rate (suc (suc (suc (suc r)))) l = absurd (omega arith)
+-- what holds of every call holds of this one
+pub word_kept : (m : Datasheet) → Lawful m → (q : Call) (t t' : Meter) (c c' : State) (places : ℕ) (es : List Entry) (ss : List Step) (r : Answer)
+    → Follows (dialogue m q t places es) ss (t', r) → Along m c ss c' → WordKept m q t c ss t' c' r
+word_kept m law q t t' c c' places es ss r f al =
+    let every = every_call m law in
+    record {
+      refusal = λ e is. every.refusals_owned q t t' places es ss e (subst (λ x. Follows (dialogue m q t places es) ss (t', x)) is f);
+      five = λ is. every.five t t' ss r (subst (λ x. Follows (dialogue m x t places es) ss (t', r)) is f);
+      obeyed = λ is ok carried. every.obeys t t' c c' ss r ok (subst (λ x. Follows (dialogue m x t places es) ss (t', r)) is f) al carried;
+      progress = λ is all. every.progress t t' ss r (subst (λ x. Follows (dialogue m x t places es) ss (t', r)) is f) all;
+      seen = λ ch k g is was. every.looks_true t t' c c' ch k ss g
+          (subst (λ x. Follows (looks m t ch k) ss (t', x)) was (subst (λ x. Follows (dialogue m x t places es) ss (t', r)) is f)) al;
+    }

@@ -8,7 +8,8 @@ use Rattle.chip.specs.Chip.{cycled}
 use Rattle.account.specs.Dialogue.{Condition, Meter, in_doubt, ready, slip_out, unfinished}
 use Rattle.account.specs.History.{History, Reached, Stretch, called, cycle_came, cycle_passed, made}
 use Rattle.chip.specs.Laws.{Lawful}
-use Rattle.chip.specs.Datasheet.{Entry, Datasheet, Wanted}
+use Rattle.chip.specs.Datasheet.{Datasheet, Wanted}
+use Rattle.chip.specs.declared.entry.Entry.{Entry}
 use Rattle.chip.specs.declared.state.State.{State}
 use Rattle.chip.specs.declared.state.Codes.{Codes}
 

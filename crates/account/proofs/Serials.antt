@@ -1,12 +1,14 @@
 -- A meter keeps its number.
-use Rattle.std.proofs.Common.{◌≡◌, ℕ, not, eqb, List, [], ◌∷◌, length, refl, ◌∙◌}
+use Rattle.std.proofs.Common.{◌≡◌, ℕ, not, eqb, List, [], ◌∷◌, ◌++◌, length, refl, ◌∙◌}
 use Rattle.account.proofs.Ways.{All, all_cond, followed}
 use Rattle.chip.specs.Chip.{Request, read, send, write}
 use Rattle.account.specs.Dialogue.{Answer, Call, Condition, Meter, Way, asks, asks_mark, bill_for, book, book_limits, dialogue, draw, draws_at, fits_slip, gathers, hands, if_numbers_left, in_doubt, look, look_limits, looks_at, or_fails, ready, refreshes, sees, set_up, sets, slip_out, unfinished, unlike, write_off}
 use Rattle.account.specs.History.{History, Reached, called, cycle_passed, made}
-use Rattle.chip.specs.Datasheet.{Entry, Datasheet}
+use Rattle.chip.specs.Datasheet.{Datasheet}
+use Rattle.chip.specs.declared.entry.Entry.{Entry}
 use Rattle.chip.specs.declared.state.State.{State}
 use Rattle.account.specs.Steps.{Step}
+use Rattle.chip.specs.Registers.{number}
 use Rattle.wire.specs.Wire.{answered, broken, unacknowledged}
 
 module _ (m : Datasheet) (t : Meter) where
@@ -30,13 +32,13 @@ module _ (m : Datasheet) (t : Meter) where
   draws_same unfinished = numbers_same (refreshes m t) (sets_same (m.settings_writes t.wanted (not t.mark)))
   draws_same in_doubt =
       numbers_same (asks_mark m t) (asks_same (read m.mark_at.0 m.mark_at.1) in_doubt in_doubt m.mark_at.0 _
-      (λ bs. all_cond Same (unlike t.mark (m.mark_in bs)) (hands t) (refreshes m t) refl (sets_same (m.settings_writes t.wanted (not t.mark)))))
+      (λ bs. all_cond Same (unlike t.mark (m.mark_in (number bs))) (hands t) (refreshes m t) refl (sets_same (m.settings_writes t.wanted (not t.mark)))))
   draws_same (slip_out n) = refl
 
-  gathers_same : (ps : List (ℕ × ℕ)) (f : List (List ℕ) → Way) → ((rs : List (List ℕ)) → All Same (f rs)) → All Same (gathers t ps f)
+  gathers_same : (ps : List (ℕ × ℕ)) (f : List ℕ → Way) → ((rs : List ℕ) → All Same (f rs)) → All Same (gathers t ps f)
   gathers_same [] f p = p []
   gathers_same (x ∷ ps) f p =
-      asks_same (read x.0 x.1) t.condition t.condition x.0 (λ bs. gathers t ps (λ rs. f (bs ∷ rs))) (λ bs. gathers_same ps (λ rs. f (bs ∷ rs)) (λ rs. p (bs ∷ rs)))
+      asks_same (read x.0 x.1) t.condition t.condition x.0 (λ bs. gathers t ps (λ rs. f (bs ++ rs))) (λ bs. gathers_same ps (λ rs. f (bs ++ rs)) (λ rs. p (bs ++ rs)))
 
   looks_same : (ch q : ℕ) (k : Condition) → All Same (looks_at m t ch q k)
   looks_same ch q ready =

@@ -3,12 +3,13 @@ use Rattle.std.proofs.Common.{◌≡◌, ℕ, ◌+◌, ◌-◌, ◌^◌, ◌<◌
 use Rattle.std.proofs.lemmas.Bool.{and_parts, both_ways, cases_Bool, eq-eqb, eqb-false, eqb-true, leb-true, ne_eqb}
 use Rattle.account.proofs.Keeping.{Kept, keep_booked, keep_latched, keep_pending, keep_refreshed, keep_written_off}
 use Rattle.account.proofs.Walks.{Wp, by_cond, does_refresh, does_refresh_v, went_exactly, went_read, went_write}
-use Rattle.account.specs.Bill.{Bill, bill, bill_of, no_bill}
+use Rattle.book.specs.Bill.{Bill, bill, bill_of, no_bill}
 use Rattle.chip.specs.Chip.{does, entry_of, latched, reacts, read, refreshed, reply, send, with_held, write}
 use Rattle.account.specs.Dialogue.{Answer, Call, Condition, Meter, Slip, Way, asks_mark, at, bill_answer, bill_for, book, book_limits, books, closes, dialogue, draw, draws, ends, entered, enters, gathers, hands, if_numbers_left, in_doubt, look, look_limits, looked, looks, millivolts, reads_at, ready, refreshes, sees, set_up, sets, sets_up, slip_out, unfinished, unlike, write_off, writes_off}
 use Rattle.account.specs.History.{History, Stretch, booked, carried_out, entries_after, happened_after, is_refresh, written_off}
 use Rattle.chip.specs.Laws.{Lawful, Means, replies, written}
-use Rattle.chip.specs.Datasheet.{Entry, Datasheet, Wanted}
+use Rattle.chip.specs.Datasheet.{Datasheet, Wanted}
+use Rattle.chip.specs.declared.entry.Entry.{Entry}
 use Rattle.chip.specs.declared.state.State.{State}
 use Rattle.chip.specs.declared.state.Held.{Held}
 use Rattle.chip.specs.Registers.{in_mask, number}
@@ -76,14 +77,14 @@ module _ (m : Datasheet) (law : Lawful m) (places before : ℕ) where
     asks_ok number last w b offs c h l (inl (k, e)) =
         went_read m c
         (λ does_it. by_cond m (Post es) _ (hands (mk number last w b offs in_doubt)) (refreshes m (mk number last w b offs in_doubt)) c _
-        (λ y. absurd (both_ways _ (told_same b (m.mark_in (reply m c m.mark_at.0 m.mark_at.1)) (law.mark_read c ∙ e)) y))
+        (λ y. absurd (both_ways _ (told_same b _ (law.mark_read c ∙ e)) y))
         (λ y. refreshes_ok (mk number last w b offs in_doubt) c _ l (keep_read None _ _ does_it k) e))
         (λ x. inl (k, e)) (inl (k, e)) (λ does_it. inl (keep_read None _ _ does_it k, e))
     asks_ok number last w b offs c h l (inr (s, k, p, e)) =
         went_read m c
         (λ does_it. by_cond m (Post es) _ (hands (mk number last w b offs in_doubt)) (refreshes m (mk number last w b offs in_doubt)) c _
         (λ y. (last, s, refl, refl, l, keep_read (Some s) _ _ does_it k, p, e))
-        (λ y. absurd (both_ways _ y (told_other b (m.mark_in (reply m c m.mark_at.0 m.mark_at.1)) (law.mark_read c ∙ e)))))
+        (λ y. absurd (both_ways _ y (told_other b _ (law.mark_read c ∙ e)))))
         (λ x. inr (s, k, p, e)) (inr (s, k, p, e)) (λ does_it. inr (s, keep_read (Some s) _ _ does_it k, p, e))
 
     numbered_ok : (t : Meter) (s : Way) (c : State) (h : History) → t.last < 2 ^ 32 → Inv t c es h → (t.last + 1 < 2 ^ 32 → Wp m (Post es) s c h)
@@ -108,11 +109,11 @@ module _ (m : Datasheet) (law : Lawful m) (places before : ℕ) where
       read_on : {h : History} (a k : ℕ) → reacts m c (read a k) ≡ does c (reply m c a k) → Inv holder c es h → Inv holder c es (carried_out (read a k) ∷ h)
       read_on a k e (j, s, is, is', l, kept, same, mark) = (j, s, is, is', l, keep_read (Some s) a k e kept, same, mark)
 
-      gathers_ok : (ps : List (ℕ × ℕ)) (f : List (List ℕ) → Way) (h : History) → Inv holder c es h
+      gathers_ok : (ps : List (ℕ × ℕ)) (f : List ℕ → Way) (h : History) → Inv holder c es h
           → ((h' : History) → Inv holder c es h' → Wp m (Post es) (f (replies m c ps)) c h') → Wp m (Post es) (gathers holder ps f) c h
       gathers_ok [] f h i g = g h i
       gathers_ok (p ∷ ps) f h i g = went_read m c
-          (λ e. gathers_ok ps (λ rs. f (reply m c p.0 p.1 ∷ rs)) _ (read_on p.0 p.1 e i) g)
+          (λ e. gathers_ok ps (λ rs. f (reply m c p.0 p.1 ++ rs)) _ (read_on p.0 p.1 e i) g)
           (λ x. i) i (λ e. read_on p.0 p.1 e i)
 
       enters_ok : (p : Slip) (h : History) → p.draw ≡ n → length es < places → Inv holder c es h → Wp m (Post es) (enters m holder p) c h
@@ -203,7 +204,7 @@ module _ (m : Datasheet) (law : Lawful m) (places before : ℕ) where
       sees_ok : (ch q : ℕ) (h : History) → Inv looker c es h → Wp m (Post es) (sees m looker ch q) c h
       sees_ok ch q h i = reads_at_ok (m.code_at ch q, 2) _ h i
           (λ bs h' i'. by_cond m (Post es) (eqb q 0) _ _ c h' (λ y. i')
-          (λ y. reads_at_ok m.polarity_at (λ gs. ends (looker, looked (millivolts (in_mask (m.two_way_in gs) (ch - 1)) (number bs)))) h' i' (λ gs h'' i''. i'')))
+          (λ y. reads_at_ok m.polarity_at (λ gs. ends (looker, looked (millivolts (in_mask (m.two_way_in (number gs)) (ch - 1)) (number bs)))) h' i' (λ gs h'' i''. i'')))
 
     looks_ok : (number last : ℕ) (w : Wanted) (b : Bool) (offs : ℕ) (k : Condition) (ch q : ℕ) (c : State) (h : History) → Inv (mk number last w b offs k) c es h
         → Wp m (Post es) (looks m (mk number last w b offs k) ch q) c h

@@ -2,12 +2,14 @@
 use Rattle.std.proofs.Common.{◌≡◌, ℕ, ◌^◌, ◌<◌, Bool, true, List, [], ◌∷◌, length, sym, refl, ap, ◌∙◌, subst, arith}
 use Rattle.std.proofs.lemmas.Bool.{both_ways}
 use Rattle.account.proofs.Assembly.{every_run}
-use Rattle.account.specs.Calls.{OwnScratch, Begun, CarriesRuns, Followed, MadeCall, MadeCycle, MadeSteps, StepsSuffice}
+use Rattle.account.proofs.Manners.{word_kept}
+use Rattle.account.specs.Calls.{Added, OwnScratch, scratch_after, Begun, CarriesRuns, Followed, MadeCall, MadeCycle, MadeSteps, StepsSuffice}
 use Rattle.chip.specs.Chip.{Request, address_of, fresh_chip, sized}
 use Rattle.account.specs.Dialogue.{Answer, Call, Meter, Way, asks, dialogue, ended, ends, new_meter, stepped}
 use Rattle.account.specs.History.{History, Reached, called, carried_in, cycle_came, cycle_passed, entries_after, happened_after, made, scratched}
 use Rattle.chip.specs.Laws.{Lawful}
-use Rattle.chip.specs.Datasheet.{Entry, Datasheet}
+use Rattle.chip.specs.Datasheet.{Datasheet}
+use Rattle.chip.specs.declared.entry.Entry.{Entry}
 use Rattle.chip.specs.declared.refusal.Refusal.{Refusal}
 use Rattle.chip.specs.declared.refusal.Who.{Who}
 use Rattle.chip.specs.declared.refusal.Refusal.TheVariants.{Broken, NotAcknowledged}
@@ -28,7 +30,11 @@ module _ (m : Datasheet) {W : Type 0} {chip_of : W → State} {goes : Goes W} {p
     -- the code need show no more than its steps
     pub made_call : {q : Call} {t : Meter} {u : W} {places : ℕ} {es : List Entry} {s : List ℕ} {t' : Meter} {w : W} {es' : List Entry} {s' : List ℕ} {r : Answer}
         → MadeSteps m goes q t u places es s t' w es' s' r → MadeCall m chip_of goes q t u places es s t' w es' s' r
-    made_call {q} {t} {u} {places} {es} {s} {t'} {w} {es'} {s'} {r} st = record { made = st; run = run }
+    made_call {q} {t} {u} {places} {es} {s} {t'} {w} {es'} {s'} {r} st = record {
+      made = st;
+      word = word_kept m law q t t' (chip_of u) (chip_of w) places es st.steps r st.follows (trip_along st.trip);
+      run = run;
+    }
       where
         run : (number last : ℕ) (h : History) → last < 2 ^ 32 → Reached m places number last t (chip_of u) es h
             → Reached m places number last t' (chip_of w) es' (happened_after r (carried_in st.steps h))
@@ -68,12 +74,12 @@ pub asks_followed : {W : Type 0} (goes : Goes W) {u v w : W} (q : Request) (f : 
 asks_followed goes q f b x g p = record { steps = record { asked = q; carried = b; got = x } ∷ p.steps; follows = stepped p.follows; trip = onward g p.trip }
 
 -- what a wire's promise tells the meter, by what was heard
-went_so : {W : Type 0} (goes : Goes W) (q : Request) → sized q ≡ true → {u w : W} {h : Heard} → Transacted goes u q h w → (b : Bool) × (r : Reply) × goes u q b r w × (h ≡ told q r)
+pub went_so : {W : Type 0} (goes : Goes W) (q : Request) → sized q ≡ true → {u w : W} {h : Heard} → Transacted goes u q h w → (b : Bool) × (r : Reply) × goes u q b r w × (h ≡ told q r)
 went_so goes q ok (too_short_or_long bad) = absurd (both_ways (sized q) bad ok)
 went_so goes q ok (transacted good g) = (_, _, g, refl)
 
 module _ (q : Request) where
-  heard_answered : (r : Reply) {bs : List ℕ} → told q r ≡ heard bs → r ≡ answered bs
+  pub heard_answered : (r : Reply) {bs : List ℕ} → told q r ≡ heard bs → r ≡ answered bs
   heard_answered (answered x) {bs} e = let p : x ≡ bs = cc in ap answered p
   heard_answered (unacknowledged x) e = let z : ◌≡◌ {A = ℕ} 0 1 = cc in absurd (omega arith)
   heard_answered broken e = let z : ◌≡◌ {A = ℕ} 0 1 = cc in absurd (omega arith)
@@ -112,11 +118,22 @@ module _ {W : Type 0} (goes : Goes W) (q : Request) (ok : sized q ≡ true) (f :
       on (unacknowledged y) e = let k : NotAcknowledged y (address_of q) ≡ r = cc in no-2 (ap number_of (sym k))
       on broken e = let k : Broken (address_of q) ≡ r = cc in no-3 (ap number_of (sym k))
 
--- a whole dialogue that is followed is a call of a run, where it leaves book and scratch as its steps say
+-- a whole dialogue that is followed, by a call that takes no book and no scratch, is a call of a run
 pub whole_call : (m : Datasheet) {W : Type 0} {chip_of : W → State} {goes : Goes W} {passes : Passes W} → IsWire m chip_of goes passes → Lawful m
-    → {q : Call} {t : Meter} {u : W} {places : ℕ} {es : List Entry} {s : List ℕ} {t' : Meter} {w : W} {r : Answer} → (p : Followed goes (dialogue m q t places es) u t' w r)
-    → OwnScratch q s → MadeCall m chip_of goes q t u places es s t' w (entries_after r es) (scratched p.steps s) r
-whole_call m is law p own = made_call m is law (record { steps = p.steps; follows = p.follows; trip = p.trip; the_book = refl; own_scratch = own; the_scratch = refl })
+    → (q : Call) {t : Meter} {u : W} (places : ℕ) (es : List Entry) (s : List ℕ) {t' : Meter} {w : W} {r : Answer} → (p : Followed goes (dialogue m q t places es) u t' w r)
+    → OwnScratch q s → es ≡ entries_after r es → s ≡ scratch_after q p.steps s → MadeCall m chip_of goes q t u places es s t' w es s r
+whole_call m is law q places es s p own book scratch =
+    made_call m is law (record { steps = p.steps; follows = p.follows; trip = p.trip; the_book = book; own_scratch = own; the_scratch = scratch })
+
+-- an outcome added leaves the run where it was
+pub added : (m : Datasheet) → Lawful m → {W : Type 0} {chip_of : W → State} {t : Meter} {u : W} {t' : Meter} {w : W} → chip_of w ≡ chip_of u → t' ≡ t → Added m chip_of t u t' w
+added m law {chip_of = chip_of} {t} {u} {t'} {w} same is = record { chip = same; meter = is; run = run }
+  where
+    run : (places number last : ℕ) (es : List Entry) (h : History) → last < 2 ^ 32 → Reached m places number last t (chip_of u) es h
+        → Reached m places number last t' (chip_of w) es h × Found m places number last t' (chip_of w) es h
+    run places number last es h l reached =
+        let on = subst (λ x. Reached m places number last x (chip_of w) es h) (sym is) (subst (λ x. Reached m places number last t x es h) (sym same) reached) in
+        (on, every_run m law places number last t' (chip_of w) es h l on)
 
 pub steps_suffice : StepsSuffice
 steps_suffice m law W chip_of goes passes is q t u places es s t' w es' s' r st = made_call m is law st

@@ -1,21 +1,11 @@
--- A book: so many places, of which some are filled from the start.
-use Rattle.std.specs.Prelude.{◌≡◌, ℕ, ◌+◌, ◌<◌, ◌≤◌, List, [], length, take, ◌≢◌, slice_index_or, slice_set}
-use Rattle.chip.specs.Datasheet.{Entry}
+-- What a call leaves of a book.
+use Rattle.std.specs.Prelude.{◌≡◌, ℕ, ◌<◌, ◌≤◌, List, [], length, ◌≢◌, slice_index_or}
+use Rattle.chip.specs.declared.entry.Entry.{Entry}
+use Rattle.book.specs.Book.{Pages, entries, put}
 use Rattle.account.specs.Dialogue.{Answer, stored, handed, entered, given_up, looked, billed, refused}
 use Rattle.account.specs.History.{entries_after}
 
-pub record Book : Type 0 where
-  pub places : List Entry
-  pub filled : ℕ
-
-abbrev pub entries : Book → List Entry
-entries b = take b.filled b.places
-
--- the next free place gets the entry
-abbrev pub put : Entry → Book → Book
-put e b = record { places = slice_set b.places b.filled e; filled = b.filled + 1 }
-
-abbrev pub book_after : Answer → Book → Book
+abbrev pub book_after : Answer → Pages → Pages
 book_after (entered e) b = put e b
 book_after stored b = b
 book_after (handed p) b = b
@@ -25,12 +15,12 @@ book_after (billed z n k) b = b
 book_after (refused r) b = b
 
 -- with a place free: the entries are those that the answer leaves, there are as many places, and every other place is as it was
-pub record KeptWell (r : Answer) (b : Book) : Type 0 where
+pub record KeptWell (r : Answer) (b : Pages) : Type 0 where
   pub the_entries : entries (book_after r b) ≡ entries_after r (entries b)
   pub as_many : length (book_after r b).places ≡ length b.places
   pub others : (i : ℕ) (e : Entry) → (i ≢ b.filled) → slice_index_or (book_after r b).places i e ≡ slice_index_or b.places i e
 
 pub record BooksKeep : Type 0 where
-  pub filled_many : (b : Book) → b.filled ≤ length b.places → length (entries b) ≡ b.filled
-  pub kept : (r : Answer) (b : Book) → b.filled < length b.places → KeptWell r b
+  pub filled_many : (b : Pages) → b.filled ≤ length b.places → length (entries b) ≡ b.filled
+  pub kept : (r : Answer) (b : Pages) → b.filled < length b.places → KeptWell r b
   pub a_new_one : (xs : List Entry) → entries (record { places = xs; filled = 0 }) ≡ []

@@ -1,15 +1,21 @@
 -- What the code of a meter promises of a call, a cycle and a beginning, over its own wire.
-use Rattle.std.specs.Prelude.{◌≡◌, ℕ, ◌^◌, ◌<◌, List, [], ◌∷◌, length}
+use Rattle.std.specs.Prelude.{◌≡◌, ℕ, ◌^◌, ◌<◌, ◌≤◌, List, [], ◌∷◌, length}
 use Rattle.chip.specs.declared.state.State.{State}
 use Rattle.chip.specs.declared.state.Codes.{Codes}
-use Rattle.chip.specs.Datasheet.{Datasheet, Entry}
+use Rattle.chip.specs.Datasheet.{Datasheet}
+use Rattle.chip.specs.declared.entry.Entry.{Entry}
 use Rattle.chip.specs.Chip.{cycled, fresh_chip}
 use Rattle.chip.specs.Laws.{Lawful}
+use Rattle.chip.specs.declared.refusal.Refusal.TheVariants.{Limits}
+use Rattle.book.specs.Book.{Pages, entries}
+use Rattle.account.specs.Book.{book_after}
 use Rattle.account.specs.Steps.{Step, Trip}
+use Rattle.wire.specs.Direct.{DirectGoes}
+use Rattle.wire.specs.Scripted.{ScriptedGoes}
 use Rattle.wire.specs.Wire.{Goes, Passes, IsWire}
-use Rattle.account.specs.Dialogue.{Meter, new_meter, Answer, Way, Follows, Call, set_up, draw, book, write_off, look, bill_for, dialogue}
+use Rattle.account.specs.Dialogue.{Meter, new_meter, Answer, refused, Way, Follows, Call, set_up, draw, book, write_off, look, bill_for, dialogue}
 use Rattle.account.specs.History.{History, cycle_came, carried_in, entries_after, happened_after, scratched, Reached}
-use Rattle.account.specs.Statements.{Found}
+use Rattle.account.specs.Statements.{Found, WordKept}
 
 -- what a helper of the code shows of a part of a dialogue
 pub record Followed {W : Type 0} (goes : Goes W) (s : Way) (u : W) (t' : Meter) (w : W) (r : Answer) : Type 0 where
@@ -26,6 +32,15 @@ OwnScratch (write_off p) s = Unit {0}
 OwnScratch (look ch q) s = Unit {0}
 OwnScratch (bill_for kind ch u) s = Unit {0}
 
+-- only a booking lays its replies on the scratch
+abbrev pub scratch_after : Call → List Step → List ℕ → List ℕ
+scratch_after (book p n) ss s = scratched ss s
+scratch_after (set_up w) ss s = s
+scratch_after draw ss s = s
+scratch_after (write_off p) ss s = s
+scratch_after (look ch q) ss s = s
+scratch_after (bill_for kind ch u) ss s = s
+
 -- what the code has to show of a call: one list of steps for the answer, the wire, the book and the scratch
 pub record MadeSteps (m : Datasheet) {W : Type 0} (goes : Goes W) (q : Call) (t : Meter) (u : W) (places : ℕ) (es : List Entry) (s : List ℕ)
     (t' : Meter) (w : W) (es' : List Entry) (s' : List ℕ) (r : Answer) : Type 0 where
@@ -34,15 +49,24 @@ pub record MadeSteps (m : Datasheet) {W : Type 0} (goes : Goes W) (q : Call) (t 
   pub trip : Trip goes u steps w
   pub the_book : es' ≡ entries_after r es
   pub own_scratch : OwnScratch q s
-  pub the_scratch : s' ≡ scratched steps s
+  pub the_scratch : s' ≡ scratch_after q steps s
 
--- and what its contract promises: whatever history led here, that history with just these steps leads on, and all holds of it
+-- and what its contract promises: the call keeps its word; and whatever history led here, that history with just these steps leads on, and all holds of it
 pub record MadeCall (m : Datasheet) {W : Type 0} (chip_of : W → State) (goes : Goes W) (q : Call) (t : Meter) (u : W) (places : ℕ)
     (es : List Entry) (s : List ℕ) (t' : Meter) (w : W) (es' : List Entry) (s' : List ℕ) (r : Answer) : Type 0 where
   pub made : MadeSteps m goes q t u places es s t' w es' s' r
+  pub word : WordKept m q t (chip_of u) made.steps t' (chip_of w) r
   pub run : (number last : ℕ) (h : History) → last < 2 ^ 32 → Reached m places number last t (chip_of u) es h
       → Reached m places number last t' (chip_of w) es' (happened_after r (carried_in made.steps h))
       × Found m places number last t' (chip_of w) es' (happened_after r (carried_in made.steps h))
+
+-- the same of a call that takes a book: one with more filled than it has places is refused by 1, and all stays
+pub record MadeBookCall (m : Datasheet) {W : Type 0} (chip_of : W → State) (goes : Goes W) (q : Call) (t : Meter) (u : W) (b : Pages)
+    (s : List ℕ) (t' : Meter) (w : W) (b' : Pages) (s' : List ℕ) (r : Answer) : Type 0 where
+  pub overfull : length b.places < b.filled → (r ≡ refused Limits) × (t' ≡ t) × (w ≡ u) × (s' ≡ s)
+  pub made : b.filled ≤ length b.places
+      → MadeCall m chip_of goes q t u (length b.places) (entries b) s t' w (entries b') s' r
+  pub the_book : b' ≡ book_after r b
 
 -- a cycle: just this one, and the meter as before
 pub record MadeCycle (m : Datasheet) {W : Type 0} (chip_of : W → State) (passes : Passes W) (ks : List Codes) (t : Meter) (u : W) (t' : Meter)
@@ -60,6 +84,13 @@ pub record Begun (m : Datasheet) {W : Type 0} (chip_of : W → State) (number la
   pub meter : t ≡ new_meter number last
   pub run : (places : ℕ) → last < 2 ^ 32 → chip_of u ≡ fresh_chip m → Reached m places number last t (chip_of w) [] []
       × Found m places number last t (chip_of w) [] []
+
+-- an outcome added to a script between calls: the chip and the meter are as before, and the run goes on
+pub record Added (m : Datasheet) {W : Type 0} (chip_of : W → State) (t : Meter) (u : W) (t' : Meter) (w : W) : Type 0 where
+  pub chip : chip_of w ≡ chip_of u
+  pub meter : t' ≡ t
+  pub run : (places number last : ℕ) (es : List Entry) (h : History) → last < 2 ^ 32 → Reached m places number last t (chip_of u) es h
+      → Reached m places number last t' (chip_of w) es h × Found m places number last t' (chip_of w) es h
 
 -- the code need show no more than the steps
 abbrev pub StepsSuffice : Type 1
@@ -87,3 +118,14 @@ pub record CarriesRuns (m : Datasheet) {W : Type 0} (chip_of : W → State) (goe
   pub calls : StepsSufficeOn m chip_of goes
   pub cycles : CyclesOn m chip_of passes
   pub begins : BeginsOn m chip_of
+
+-- where the wire takes each request in one way only, a call has one end only
+abbrev pub OneEnd : {W : Type 0} (goes : Goes W) → Type 0
+OneEnd {W} goes = (s : Way) (u : W) (t t' : Meter) (w w' : W) (r r' : Answer) → Followed goes s u t w r → Followed goes s u t' w' r'
+    → (t ≡ t') × (w ≡ w') × (r ≡ r')
+
+-- on a direct wire, a scripted one over it, and a scripted one over that, every call's answer and all that it leaves is settled by what was there before
+pub record CallsExact (m : Datasheet) : Type 0 where
+  pub direct : OneEnd (DirectGoes m)
+  pub scripted : OneEnd (ScriptedGoes (DirectGoes m))
+  pub twice : OneEnd (ScriptedGoes (ScriptedGoes (DirectGoes m)))

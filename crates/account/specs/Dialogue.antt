@@ -1,14 +1,15 @@
 -- The meter, and each of its calls as what it asks of the wire and what it answers.
-use Rattle.std.specs.Prelude.{ℕ, ◌+◌, ◌-◌, ◌*◌, Bool, false, cond, not, ◌&&◌, List, [], ◌∷◌, length, ℤ, pos, ◌*ℤ◌, ◌==◌, nat_le}
+use Rattle.std.specs.Prelude.{ℕ, ◌+◌, ◌-◌, ◌*◌, Bool, false, cond, not, ◌&&◌, List, [], ◌∷◌, ◌++◌, length, ℤ, pos, ◌*ℤ◌, ◌==◌, nat_le}
 use Rattle.chip.specs.Registers.{number, in_mask, value_of}
-use Rattle.chip.specs.Datasheet.{Datasheet, Wanted, Entry}
+use Rattle.chip.specs.Datasheet.{Datasheet, Wanted}
+use Rattle.chip.specs.declared.entry.Entry.{Entry}
 use Rattle.chip.specs.Chip.{Request, read, write, send}
 use Rattle.chip.specs.Laws.{all_zero}
 use Rattle.chip.specs.declared.refusal.Refusal.{Refusal}
 use Rattle.chip.specs.declared.refusal.Refusal.TheVariants.{Limits, NotAcknowledged, Broken, SlipOut, NotReady, NumbersSpent, WrongSlip, Full}
 use Rattle.wire.specs.Wire.{Reply, answered, unacknowledged, broken}
 use Rattle.account.specs.Steps.{Step}
-use Rattle.account.specs.Bill.{Bill, bill_of, no_bill, bill}
+use Rattle.book.specs.Bill.{Bill, bill_of, no_bill, bill, book_within}
 
 pub data Condition : Type 0 where
   ready : Condition
@@ -136,7 +137,7 @@ unlike a b = cond a (not b) b
 abbrev pub asks_mark : Datasheet → Meter → Way
 asks_mark m t =
     asks (read m.mark_at.0 m.mark_at.1)
-    (or_fails t in_doubt in_doubt m.mark_at.0 (λ bs. cond (unlike t.mark (m.mark_in bs)) (hands t) (refreshes m t)))
+    (or_fails t in_doubt in_doubt m.mark_at.0 (λ bs. cond (unlike t.mark (m.mark_in (number bs))) (hands t) (refreshes m t)))
 
 abbrev pub if_numbers_left : Meter → Way → Way
 if_numbers_left t s = cond (t.last == 4294967295) (refuses t NumbersSpent) s
@@ -161,12 +162,12 @@ abbrev pub fits_slip : Meter → Slip → Bool
 fits_slip t p = is_open t p t.condition
 
 abbrev pub book_limits : (places filled scratch : ℕ) → Bool
-book_limits places filled scratch = nat_le 1 places && nat_le places 4096 && nat_le filled places && nat_le 32 scratch
+book_limits places filled scratch = book_within places filled && nat_le 32 scratch
 
--- reads one after the other, and goes on with all replies; a failed read leaves the condition
-abbrev pub gathers : Meter → List (ℕ × ℕ) → (List (List ℕ) → Way) → Way
+-- reads one after the other, and goes on with all replies in a row; a failed read leaves the condition
+abbrev pub gathers : Meter → List (ℕ × ℕ) → (List ℕ → Way) → Way
 gathers t [] f = f []
-gathers t (p ∷ ps) f = asks (read p.0 p.1) (or_fails t t.condition t.condition p.0 (λ bs. gathers t ps (λ rs. f (bs ∷ rs))))
+gathers t (p ∷ ps) f = asks (read p.0 p.1) (or_fails t t.condition t.condition p.0 (λ bs. gathers t ps (λ rs. f (bs ++ rs))))
 
 abbrev pub enters : Datasheet → Meter → Slip → Way
 enters m t p = gathers t m.booking_reads (λ rs. ends (at t ready, entered (m.entry_in rs p.draw)))
@@ -191,7 +192,7 @@ abbrev pub sees : Datasheet → Meter → (channel quantity : ℕ) → Way
 sees m t ch q =
     reads_at t (m.code_at ch q, 2) (λ bs.
     cond (q == 0) (ends (t, looked (volts (number bs))))
-    (reads_at t m.polarity_at (λ gs. ends (t, looked (millivolts (in_mask (m.two_way_in gs) (ch - 1)) (number bs))))))
+    (reads_at t m.polarity_at (λ gs. ends (t, looked (millivolts (in_mask (m.two_way_in (number gs)) (ch - 1)) (number bs))))))
 
 abbrev pub looks_at : Datasheet → Meter → (channel quantity : ℕ) → Condition → Way
 looks_at m t ch q ready = asks (send m.refresh_v) (or_fails t ready ready m.refresh_v (λ bs. sees m t ch q))

@@ -5,7 +5,8 @@ use Rattle.chip.specs.declared.state.Codes.{Codes}
 use Rattle.chip.specs.declared.state.State.{State}
 use Rattle.chip.specs.declared.state.Image.{Image}
 use Rattle.chip.specs.Registers.{in_mask, in_range}
-use Rattle.chip.specs.Datasheet.{Datasheet, Entry}
+use Rattle.chip.specs.Datasheet.{Datasheet}
+use Rattle.chip.specs.declared.entry.Entry.{Entry}
 use Rattle.chip.specs.Chip.{Request, read, write, send, Reaction, bad_length, no_acknowledge, does, reacts, all_off, cycled, fresh_chip}
 use Rattle.wire.specs.Wire.{Reply, answered, unacknowledged, broken}
 use Rattle.account.specs.Steps.{Step, Along}

@@ -2,7 +2,6 @@ pub mod Steps
 pub mod Dialogue
 pub mod History
 pub mod Book
-pub mod Bill
 pub mod Statements
 pub mod Calls
 pub mod Worked

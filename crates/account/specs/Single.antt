@@ -1,11 +1,12 @@
 -- A make of one channel, with other addresses and one register a read: the theory does not rest on four.
-use Rattle.std.specs.Prelude.{ℕ, ◌+◌, ◌*◌, ◌/◌, ◌%◌, Bool, cond, ◌&&◌, ◌||◌, List, [], ◌∷◌, ℤ, pos, ◌*ℤ◌, Some, None, Option, ◌==◌, nat_le, slice_index, slice_index_or}
+use Rattle.std.specs.Prelude.{ℕ, ◌+◌, ◌-◌, ◌*◌, ◌/◌, ◌%◌, Bool, cond, ◌&&◌, ◌||◌, List, [], ◌∷◌, ℤ, pos, ◌*ℤ◌, Some, None, Option, ◌==◌, nat_le}
 use Rattle.chip.specs.declared.state.Codes.{Codes}
 use Rattle.chip.specs.declared.state.Running.{Running}
 use Rattle.chip.specs.declared.state.State.{State}
 use Rattle.chip.specs.declared.state.Held.{Held}
-use Rattle.chip.specs.Registers.{in_mask, value_of, number, big_endian}
-use Rattle.chip.specs.Datasheet.{Datasheet, Wanted, Entry}
+use Rattle.chip.specs.Registers.{in_mask, value_of, register_at, big_endian}
+use Rattle.chip.specs.Datasheet.{Datasheet, Wanted}
+use Rattle.chip.specs.declared.entry.Entry.{Entry}
 use Rattle.makes.specs.Table.{image_sum, image_bus, image_sense, image_power, bit}
 
 -- v × s on channel 1; the others are not there
@@ -67,15 +68,15 @@ abbrev pub single_offer : Wanted → Bool
 single_offer w = nat_le w.rate 3 && w.off == 0 && (w.two_way == 0 || w.two_way == 8)
 
 -- five replies: count, sum, flags, control, polarity
-abbrev pub entry_single : (count sum flags control polarity : List ℕ) → ℕ → Entry
-entry_single cs ss fs ks ps n = record {
+abbrev pub entry_single : (replies : List ℕ) → ℕ → Entry
+entry_single bs n = record {
   draw = n;
-  spoilt = bit (nat_le 1 ((slice_index fs 1 / 4) % 4));
-  count = number cs;
-  rate = rate_single (number ks);
+  spoilt = bit (nat_le 1 ((register_at 11 2 bs / 4) % 4));
+  count = register_at 0 4 bs;
+  rate = rate_single (register_at 13 2 bs);
   off = 0;
-  two_way = two_way_single (number ps);
-  sums = value_of 56 (in_mask (two_way_single (number ps)) 0) (number ss) ∷ pos 0 ∷ pos 0 ∷ pos 0 ∷ [];
+  two_way = two_way_single (register_at 15 1 bs);
+  sums = value_of 56 (in_mask (two_way_single (register_at 15 1 bs)) 0) (register_at 4 7 bs) ∷ pos 0 ∷ pos 0 ∷ pos 0 ∷ [];
 }
 
 abbrev pub single : Datasheet
@@ -99,12 +100,12 @@ single = record {
   offers = single_offer;
   settings_writes = λ w b. (0x01, big_endian 2 ((2 + w.rate) * 4096 + bit b * 1024)) ∷ (0x13, (w.two_way / 2) ∷ []) ∷ [];
   mark_at = (0x17, 2);
-  mark_in = λ bs. mark_single (number bs);
+  mark_in = mark_single;
   booking_reads = (0x02, 4) ∷ (0x03, 7) ∷ (0x11, 2) ∷ (0x0F, 2) ∷ (0x10, 1) ∷ [];
-  entry_in = λ rs n. entry_single (slice_index_or rs 0 []) (slice_index_or rs 1 []) (slice_index_or rs 2 []) (slice_index_or rs 3 []) (slice_index_or rs 4 []) n;
+  entry_in = entry_single;
   code_at = λ ch q. 0x04 + q;
   polarity_at = (0x10, 1);
-  two_way_in = λ bs. two_way_single (number bs);
+  two_way_in = two_way_single;
   volts = 42;
   tariff = record { factor = 328125; power = 35 };
 }

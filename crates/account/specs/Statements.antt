@@ -4,15 +4,16 @@ use Rattle.chip.specs.declared.state.Settings.{Settings}
 use Rattle.chip.specs.declared.state.State.{State}
 use Rattle.chip.specs.declared.state.Running.{Running}
 use Rattle.chip.specs.Registers.{in_mask}
-use Rattle.chip.specs.Datasheet.{Datasheet, Entry, meaning}
+use Rattle.chip.specs.Datasheet.{Datasheet, meaning}
+use Rattle.chip.specs.declared.entry.Entry.{Entry}
 use Rattle.chip.specs.Chip.{channel, Request, address_of, spoilt, sums_of, entry_of}
 use Rattle.chip.specs.Laws.{Every, Lawful}
 use Rattle.chip.specs.declared.refusal.Refusal.{Refusal}
 use Rattle.chip.specs.declared.refusal.Refusal.TheVariants.{Limits, NotAcknowledged, Broken, SlipOut, NotReady, NumbersSpent, WrongSlip, Full, BadEntry, Unreadable, NoSlip}
 use Rattle.wire.specs.Wire.{Reply, answered, unacknowledged, broken}
 use Rattle.account.specs.Steps.{Step, Along}
-use Rattle.account.specs.Bill.{bill_of, no_bill, bill, bill_limits, weight}
-use Rattle.account.specs.Dialogue.{Condition, ready, unfinished, in_doubt, slip_out, Meter, Reading, volts, millivolts, Answer, handed, looked, refused, Follows, Call, dialogue, draws, looks}
+use Rattle.book.specs.Bill.{bill_of, no_bill, bill, bill_limits, weight}
+use Rattle.account.specs.Dialogue.{Condition, ready, unfinished, in_doubt, slip_out, Meter, Reading, volts, millivolts, Answer, handed, looked, refused, Follows, Call, draw, look, dialogue, draws, looks}
 use Rattle.account.specs.History.{History, cycle_came, carried_out, booked, written_off, chip_after, Stretch, waits, got_entry, was_written_off, was_lost, Closed, account, product_at, sum_over, count_over, left_range, entries_after, Reached, is_refresh}
 
 module _ (m : Datasheet) where
@@ -285,6 +286,15 @@ module _ (m : Datasheet) where
     pub five : Five
     pub progress : Progress
     pub looks_true : LooksTrue
+
+-- the same of one call: what a refusal leaves; of a draw, at most five transactions, the wanted settings in force, and progress; of a look, the latest code
+pub record WordKept (m : Datasheet) (q : Call) (t : Meter) (c : State) (ss : List Step) (t' : Meter) (c' : State) (r : Answer) : Type 0 where
+  pub refusal : (e : Refusal) → r ≡ refused e → Owns m ss t t' e
+  pub five : q ≡ draw → length ss ≤ 5
+  pub obeyed : q ≡ draw → m.offers t.wanted ≡ true → refresh_carried m ss ≡ true → meaning m c'.active ≡ t.wanted
+  pub progress : q ≡ draw → all_answered m ss
+      → (r ≡ refused SlipOut) ⊎ ((r ≡ refused NumbersSpent) ⊎ (r ≡ handed (record { meter = t.meter; draw = t.last + 1 })))
+  pub seen : (ch k : ℕ) (g : Reading) → q ≡ look ch k → r ≡ looked g → Seen m c c' t t' ch k g
 
 -- earlier entries never change
 abbrev pub BookGrows : Type 0

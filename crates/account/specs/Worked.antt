@@ -1,7 +1,8 @@
 -- The figures worked on the bench, and runs that show that the statements speak of something.
 use Rattle.std.specs.Prelude.{◌≡◌, ℕ, false, List, [], ◌∷◌, ◌++◌, length, ℤ, pos, negsuc}
 use Rattle.chip.specs.declared.state.State.{State}
-use Rattle.chip.specs.Datasheet.{Datasheet, Entry}
+use Rattle.chip.specs.Datasheet.{Datasheet}
+use Rattle.chip.specs.declared.entry.Entry.{Entry}
 use Rattle.chip.specs.Chip.{cycled, fresh_chip, fresh_from}
 use Rattle.chip.specs.declared.refusal.Refusal.TheVariants.{Broken}
 use Rattle.account.specs.Steps.{Step, Along, Trip}
@@ -9,7 +10,7 @@ use Rattle.wire.specs.Scripted.{Scripting, ScriptedGoes}
 use Rattle.wire.specs.declared.outcome.Outcome.TheVariants.{Pass, DropReply}
 use Rattle.wire.specs.Direct.{DirectGoes}
 use Rattle.makes.specs.Figures.{Figures, on_one}
-use Rattle.account.specs.Bill.{bill, bill_of}
+use Rattle.book.specs.Bill.{bill, bill_of}
 use Rattle.account.specs.Dialogue.{Meter, new_meter, handed, refused, Follows, draws}
 use Rattle.account.specs.History.{History, Reached}
 use Rattle.account.specs.Statements.{refresh_carried}

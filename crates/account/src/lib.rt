@@ -1,15 +1,15 @@
 //! The theory of the meter: functions that do nothing, whose contracts are its theorems.
 #![tactic(auto)]
 
-ghost use Rattle.account.specs.Bill.{WeightsMeant};
 ghost use Rattle.account.specs.Book.{BooksKeep};
-ghost use Rattle.account.specs.Calls.{CarriesRuns};
+ghost use Rattle.account.specs.Calls.{CarriesRuns, CallsExact};
 ghost use Rattle.account.specs.Single.{single};
 ghost use Rattle.account.specs.Statements.{EveryRun, EveryCall, BookGrows};
 ghost use Rattle.account.specs.Theorems.{RunsThereAre};
 ghost use Rattle.account.specs.Worked.{Worked, WhyFresh};
 ghost use Rattle.chip.specs.Laws.{Lawful};
 
+use chip::make::Make;
 use wire::wire::Wire;
 
 /// Over every lawful make, every run is accounted for, conserved and billable.
@@ -27,6 +27,11 @@ pub fn wires_carry_runs<W: Wire>()
     ensures { CarriesRuns W.Make.Make.sheet W.Wire.chip W.Wire.goes W.Wire.passes }
 {}
 
+/// On direct and scripted wires every call's answer, and all that it leaves, is settled by what was there before.
+pub fn calls_are_exact<M: Make>()
+    ensures { CallsExact M.Make.sheet }
+{}
+
 /// A booking fills the next free place and leaves every other.
 pub fn books_keep_what_they_hold()
     ensures { BooksKeep }
@@ -35,11 +40,6 @@ pub fn books_keep_what_they_hold()
 /// Earlier entries never change.
 pub fn the_book_only_grows()
     ensures { BookGrows }
-{}
-
-/// What the bill's weights are for.
-pub fn weights_have_a_meaning()
-    ensures { WeightsMeant }
 {}
 
 /// A make of one channel with other addresses keeps the laws, so nothing rests on the makes with four.

@@ -1,5 +1,7 @@
 -- Numbers as bytes, the highest first.
-use Rattle.std.proofs.Common.{◌≡◌, ℕ, zero, suc, ◌+◌, ◌-◌, ◌/◌, ◌<◌, ◌≤◌, min, List, [], ◌∷◌, ◌++◌, length, take, drop, replicate, sym, refl, ap, ◌∙◌, ⊎_elim, append-nil, w64, arith}
+use Rattle.std.proofs.Common.{◌≡◌, ℕ, zero, suc, ◌+◌, ◌-◌, ◌*◌, ◌/◌, ◌^◌, ◌<◌, ◌≤◌, min, List, [], ◌∷◌, ◌++◌, length, get_or, take, drop, replicate, sym, refl, ap, ◌∙◌, ⊎_elim, append-nil, w64, arith, lit<, pow-suc}
+use native.Mathlib.Nat.{pow-le-pow_right}
+use Rattle.std.proofs.lemmas.Nat.{mul-add-lt}
 use Rattle.std.specs.Int.{from_be_bytes, to_be_bytes}
 use Rattle.std.proofs.lemmas.List.{drop_all, length-append, length-drop, length-replicate, take-replicate, take_all}
 use Rattle.std.proofs.lemmas.Bool.{cases_lt}
@@ -54,6 +56,10 @@ over_all xs ys i e = ⊎_elim short long (cases_lt (length xs) (length ys))
         ap (λ k. take k xs ++ drop k ys) f
         ∙ ap (λ zs. take (length ys) xs ++ zs) (drop_all (length ys) ys (omega arith) ∙ sym (drop_all (length xs) ys h))
 
+-- more bytes hold it too
+pub more_room : (v n k : ℕ) → v < 256 ^ n → n ≤ k → v < 256 ^ k
+more_room v n k below le = let top : 256 ^ n ≤ 256 ^ k = pow-le-pow_right (lit< tt) le in omega arith
+
 -- the last w of a number's eight bytes, as many as there is room for, over the start of ys
 pub last_bytes : (w n count : ℕ) (ys : List ℕ) → w ≤ 8 → count ≡ min w (length ys)
     → take (8 - w + count - (8 - w)) (drop (8 - w) (to_be_bytes w64 n)) ++ drop count ys ≡ take (length ys) (big_endian w n) ++ drop w ys
@@ -78,3 +84,11 @@ padded bs xs h e =
     ∙ ap (λ ys. from_be_bytes w64 (replicate {A = ℕ} a 0 ++ ys)) (append-nil bs)
     ∙ eight_is (replicate {A = ℕ} a 0 ++ bs) (omega (arith, long, zeros))
     ∙ zeros_before a bs
+
+-- bytes write a number below their count's power of 256
+pub number_below : (bs : List ℕ) → ((i : ℕ) → get_or bs i 0 < 256) → number bs < 256 ^ length bs
+number_below [] h = omega arith
+number_below (b ∷ bs) h =
+    let low = number_below bs (λ i. h (suc i)) in
+    let e : 256 ^ suc (length bs) ≡ 256 ^ length bs * 256 = pow-suc 256 (length bs) in
+    omega (arith, e, mul-add-lt b (256 ^ length bs) (number bs) 256 (h 0) low)

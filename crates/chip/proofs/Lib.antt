@@ -3,3 +3,4 @@ pub mod Cycles
 pub mod Fills
 pub mod Ranges
 pub mod Soundness
+pub mod Clips

@@ -1,5 +1,6 @@
 -- What a chip of a make does.
 use Rattle.std.specs.Prelude.{ℕ, zero, suc, ◌+◌, ◌-◌, ◌%◌, ◌^◌, Bool, true, false, cond, not, ◌&&◌, ◌||◌, List, [], ◌∷◌, ◌++◌, map, length, take, replicate, ℤ, pos, ◌+ℤ◌, Some, None, Ok, Err, Option, Result, ◌==◌, nat_le, nat_lt, slice_index_or}
+use Rattle.chip.specs.declared.entry.Entry.{Entry}
 use Rattle.chip.specs.declared.refusal.Refusal.{Refusal}
 use Rattle.chip.specs.declared.refusal.Refusal.TheVariants.{Limits, NotAcknowledged}
 use Rattle.chip.specs.declared.refusal.Who.TheVariants.{Chip}
@@ -10,7 +11,7 @@ use Rattle.chip.specs.declared.state.Image.{Image}
 use Rattle.chip.specs.declared.state.Running.{Running}
 use Rattle.chip.specs.declared.state.Settings.{Settings}
 use Rattle.chip.specs.declared.state.State.{State}
-use Rattle.chip.specs.Datasheet.{Datasheet, Entry}
+use Rattle.chip.specs.Datasheet.{Datasheet}
 use Rattle.chip.specs.Registers.{in_mask, value_of, in_range, bits_of, big_endian, number}
 
 abbrev pub all_off : Datasheet → Settings → Bool

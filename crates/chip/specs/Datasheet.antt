@@ -1,33 +1,18 @@
 -- What a make of chip is: its widths, arithmetic and registers, and what a driver has to know of it.
 use Rattle.std.specs.Prelude.{ℕ, Bool, List, ℤ, Option}
+use Rattle.chip.specs.declared.entry.Entry.{Entry}
 use Rattle.chip.specs.declared.state.Codes.{Codes}
-use Rattle.chip.specs.declared.state.Constants.{Constants}
 use Rattle.chip.specs.declared.state.Held.{Held}
 use Rattle.chip.specs.declared.state.Masks.{Masks}
 use Rattle.chip.specs.declared.state.Settings.{Settings}
 use Rattle.chip.specs.declared.state.State.{State}
+use Rattle.chip.specs.declared.state.Tariff.{Tariff}
 
 -- a rate code, an off mask and a two-way mask: what a user wants, and what settings mean
 pub record Wanted : Type 0 where
   pub rate : ℕ
   pub off : ℕ
   pub two_way : ℕ
-
--- what an image says of the cycles behind it, under a draw number: one line of a book
-pub record Entry : Type 0 where
-  pub draw : ℕ
-  -- 1 if a sum or the count left its range
-  pub spoilt : ℕ
-  pub count : ℕ
-  pub rate : ℕ
-  pub off : ℕ
-  pub two_way : ℕ
-  pub sums : List ℤ
-
--- with a shunt u in tenths of a milliohm, weighed sums S are worth factor * S / (u * 2^power) millijoules
-pub record Tariff : Type 0 where
-  pub factor : ℕ
-  pub power : ℕ
 
 pub record Datasheet : Type 0 where
   -- how many of the four channels the chip has; the others have product 0
@@ -54,16 +39,16 @@ pub record Datasheet : Type 0 where
   pub offers : Wanted → Bool
   -- the writes that put settings and a mark in place: addresses and bytes
   pub settings_writes : Wanted → (mark : Bool) → List (ℕ × List ℕ)
-  -- where and how long the mark in force is read, and how
+  -- where and how long the mark in force is read, and the mark in the number read
   pub mark_at : ℕ × ℕ
-  pub mark_in : List ℕ → Bool
-  -- the reads that bring an image, and the entry in their replies
+  pub mark_in : (number : ℕ) → Bool
+  -- the reads that bring an image, and the entry in their replies, one after the other
   pub booking_reads : List (ℕ × ℕ)
-  pub entry_in : List (List ℕ) → (draw : ℕ) → Entry
+  pub entry_in : (replies : List ℕ) → (draw : ℕ) → Entry
   -- where a code is read (channel 1 on; quantity 0 bus, 1 sense), and the image's two-way mask
   pub code_at : (channel quantity : ℕ) → ℕ
   pub polarity_at : ℕ × ℕ
-  pub two_way_in : List ℕ → ℕ
+  pub two_way_in : (number : ℕ) → ℕ
   -- the bus code's full scale in volts
   pub volts : ℕ
   pub tariff : Tariff
@@ -73,13 +58,3 @@ meaning m s = record { rate = m.rate s; off = m.off s; two_way = m.two_way s }
 
 abbrev pub masks_of : Datasheet → Settings → Masks
 masks_of m s = record { off = m.off s; two_way = m.two_way s }
-
-abbrev pub constants_of : Datasheet → Constants
-constants_of m = record {
-  sum_bits = m.sum_bits;
-  count_bits = m.count_bits;
-  fresh = m.fresh;
-  last_address = m.last_address;
-  refresh = m.refresh;
-  refresh_v = m.refresh_v;
-}

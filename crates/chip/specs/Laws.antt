@@ -1,5 +1,5 @@
 -- What a make owes.
-use Rattle.std.specs.Prelude.{◌≡◌, ℕ, ◌+◌, ◌-◌, ◌%◌, ◌^◌, ◌<◌, ◌≤◌, Bool, true, false, cond, List, [], ◌∷◌, length, pos, Some, None, Option, ◌==◌}
+use Rattle.std.specs.Prelude.{◌≡◌, ℕ, ◌+◌, ◌-◌, ◌%◌, ◌^◌, ◌<◌, ◌≤◌, Bool, true, false, cond, List, [], ◌∷◌, ◌++◌, length, pos, Some, None, Option, ◌==◌}
 use Rattle.chip.specs.declared.state.Channel.{Channel}
 use Rattle.chip.specs.declared.state.Codes.{Codes}
 use Rattle.chip.specs.declared.state.Held.{Held}
@@ -49,9 +49,15 @@ Readable m p = (1 ≤ p.1) × (p.1 ≤ 32) × (p.0 < 256) × (0 < m.width p.0)
 abbrev pub Writable : ℕ × List ℕ → Type 0
 Writable p = (p.0 < 256) × Every (λ b. b < 256) p.1
 
-abbrev pub replies : Datasheet → State → List (ℕ × ℕ) → List (List ℕ)
+-- the replies to some reads, one after the other
+abbrev pub replies : Datasheet → State → List (ℕ × ℕ) → List ℕ
 replies m c [] = []
-replies m c (p ∷ ps) = reply m c p.0 p.1 ∷ replies m c ps
+replies m c (p ∷ ps) = reply m c p.0 p.1 ++ replies m c ps
+
+-- how many bytes these are
+abbrev pub replies_length : List (ℕ × ℕ) → ℕ
+replies_length [] = 0
+replies_length (p ∷ ps) = p.1 + replies_length ps
 
 abbrev pub all_zero : Wanted
 all_zero = record { rate = 0; off = 0; two_way = 0 }
@@ -82,8 +88,9 @@ pub record Lawful (m : Datasheet) : Type 0 where
   pub written_means : (w : Wanted) → m.offers w ≡ true → (b : Bool) (s : Held) → Means m w b (written m (m.settings_writes w b) s)
   -- reads
   pub mark_readable : Readable m m.mark_at
-  pub mark_read : (c : State) → m.mark_in (reply m c m.mark_at.0 m.mark_at.1) ≡ m.mark c.active
+  pub mark_read : (c : State) → m.mark_in (number (reply m c m.mark_at.0 m.mark_at.1)) ≡ m.mark c.active
   pub booking_readable : Every (Readable m) m.booking_reads
+  pub few_replies : replies_length m.booking_reads ≤ 64
   -- an image leaves as its registers' bytes, and those bytes give back its count, flags, settings and sums with their signs
   pub entry_read : (c : State) (n : ℕ) → Sound m c.image.running → m.entry_in (replies m c m.booking_reads) n
       ≡ entry_of m c.image n
@@ -93,7 +100,12 @@ pub record Lawful (m : Datasheet) : Type 0 where
   pub sense_read : (c : State) (ch : ℕ) → 1 ≤ ch → ch ≤ m.channels → number (reply m c (m.code_at ch 1) 2)
       ≡ (channel (ch - 1) c.image.running).latest.sense % 65536
   pub polarity_readable : Readable m m.polarity_at
-  pub polarity_read : (c : State) → m.two_way_in (reply m c m.polarity_at.0 m.polarity_at.1) ≡ m.two_way c.image.settings
+  pub polarity_read : (c : State) → m.two_way_in (number (reply m c m.polarity_at.0 m.polarity_at.1)) ≡ m.two_way c.image.settings
+  -- settings are read as one register
+  pub mark_short : m.mark_at.1 ≤ 8
+  pub polarity_short : m.polarity_at.1 ≤ 8
+  -- a bill fits the machine's words
+  pub tariff_fits : (m.tariff.factor < 2 ^ 32) × (m.tariff.power ≤ 64)
 
 -- registers hold what fits them from the fresh chip on, whatever cycles come and whatever is asked
 pub record StaysSound (m : Datasheet) : Type 0 where

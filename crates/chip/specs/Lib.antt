@@ -1,5 +1,6 @@
 pub mod Refusals
 pub mod Registers
 pub mod Datasheet
+pub mod Driver
 pub mod Chip
 pub mod Laws

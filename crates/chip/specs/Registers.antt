@@ -1,5 +1,5 @@
 -- How a register's bits and bytes are read.
-use Rattle.std.specs.Prelude.{ℕ, zero, suc, ◌+◌, ◌-◌, ◌*◌, ◌/◌, ◌%◌, ◌^◌, Bool, cond, ◌&&◌, List, [], ◌∷◌, length, ℤ, pos, negsuc, ◌-ℤ◌, ◌==◌, int_le, int_lt, nat_le, unsigned_abs}
+use Rattle.std.specs.Prelude.{ℕ, zero, suc, ◌+◌, ◌-◌, ◌*◌, ◌/◌, ◌%◌, ◌^◌, Bool, cond, ◌&&◌, List, [], ◌∷◌, length, take, drop, ℤ, pos, negsuc, ◌-ℤ◌, ◌==◌, int_le, int_lt, nat_le, unsigned_abs}
 use Rattle.std.specs.Int.{int_rem_euclid}
 
 -- bit 3 of a mask is channel 1, bit 0 channel 4; channels count from 0 here
@@ -28,3 +28,7 @@ big_endian (suc w) n = (n / 256 ^ w) % 256 ∷ big_endian w n
 abbrev pub number : List ℕ → ℕ
 number [] = 0
 number (b ∷ bs) = b * 256 ^ length bs + number bs
+
+-- the number in so many bytes from a place on
+abbrev pub register_at : (place width : ℕ) → List ℕ → ℕ
+register_at place width bs = number (take width (drop place bs))

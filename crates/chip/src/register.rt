@@ -1,6 +1,13 @@
 //! How a register's bits and bytes are read, as in specs/Registers.
 ghost use Rattle.std.specs.Prelude.{◌≡◌, ℕ, ◌+◌, ◌-◌, ◌^◌, ◌<◌, ◌≤◌, min, ◌++◌, length, take, drop, pos, unsigned_abs};
-ghost use Rattle.chip.specs.Registers.{value_of, in_range, bits_of, big_endian, number};
+ghost use Rattle.chip.specs.Registers.{in_mask, value_of, in_range, bits_of, big_endian, number};
+
+/// Bit 3 is channel 1, bit 0 channel 4; channels count from 0, and there are four.
+pub fn in_mask(mask: u8, channel: usize) -> bool
+    ensures { result ≡ in_mask mask channel }
+{
+    (mask >> 3usize.saturating_sub(channel)) % 2 == 1
+}
 
 // A sum register: how many bits it has, and whether they are read in two's complement.
 #[derive(Clone, Copy)]
@@ -38,6 +45,7 @@ impl Format {
     pub(crate) fn value(self, register: u64) -> i128
         ensures value { result ≡ value_of self.bits self.two_way register }
         ensures bound { unsigned_abs result < 2 ^ 65 }
+        ensures narrow { unsigned_abs result ≤ register + 2 ^ self.bits }
     {
         let plain = i128::from(register);
         if self.two_way && plain >= self.half() {
@@ -80,7 +88,8 @@ pub fn sense_value(two_way: bool, sense: u16) -> i32
 // The number that some bytes write, the highest first.
 pub(crate) fn number_of(bytes: &[u8]) -> u64
     requires { length bytes.now ≤ 8 }
-    ensures { result ≡ number bytes.now }
+    ensures value { result ≡ number bytes.now }
+    ensures bound { result < 256 ^ length bytes.now }
 {
     let mut all = [0; 8];
     all[8 - bytes.len()..].copy_from_slice(bytes);

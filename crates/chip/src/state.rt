@@ -3,7 +3,9 @@ ghost use Rattle.std.specs.Prelude.{◌≡◌, ℕ, ◌<◌, ◌≤◌, map, len
 ghost use Rattle.chip.specs.Chip.{add_all, adds, any_leaves, cleared, counted, fresh_from, latched, leaves, ran, refreshed, zeroed};
 ghost use Rattle.chip.specs.Registers.{in_mask};
 
+use super::driver::Span;
 use super::make::Make;
+use super::register;
 use super::register::Format;
 
 /// The settings registers, as written. Each make says which bits mean what, and keeps the others.
@@ -68,15 +70,29 @@ pub struct Masks {
     pub two_way: u8,
 }
 
+/// With a shunt u in tenths of a milliohm, weighed sums S are worth factor * S / (u * 2^power) millijoules.
+#[derive(Clone, Copy)]
+pub struct Tariff {
+    pub factor: u32,
+    pub power: u32,
+}
+
 /// The numbers of a make.
 #[derive(Clone, Copy)]
 pub struct Constants {
+    pub channels: u8,
     pub sum_bits: u32,
     pub count_bits: u32,
     pub fresh: Settings,
     pub last_address: u8,
     pub refresh: u8,
     pub refresh_v: u8,
+    // where the mark in force and the image's polarity are read
+    pub mark: Span,
+    pub polarity: Span,
+    // the bus code's full scale in volts
+    pub volts: u8,
+    pub tariff: Tariff,
 }
 
 impl Masks {
@@ -90,20 +106,14 @@ impl Masks {
     pub(crate) fn is_off(self, channel: usize) -> bool
         ensures { result ≡ in_mask self.off channel }
     {
-        has(self.off, channel)
+        register::in_mask(self.off, channel)
     }
 
     pub(crate) fn is_two_way(self, channel: usize) -> bool
         ensures { result ≡ in_mask self.two_way channel }
     {
-        has(self.two_way, channel)
+        register::in_mask(self.two_way, channel)
     }
-}
-
-fn has(mask: u8, channel: usize) -> bool
-    ensures { result ≡ in_mask mask channel }
-{
-    (mask >> 3usize.saturating_sub(channel)) % 2 == 1
 }
 
 const BLANK: Channel = Channel {

@@ -5,7 +5,8 @@ use Rattle.std.proofs.lemmas.Bool.{le-leb, lt-leb}
 use Rattle.makes.specs.Layouts.{and_three, bit_at_most, bit_told, by_channel, chip_with, codes_readable, four_of, offered_limits, one_sum, same_entry, same_wanted, six_bytes, three_bytes, two_bytes, unlisted}
 use Rattle.chip.specs.Chip.{channel, entry_of, reply, spoilt}
 use Rattle.chip.specs.Laws.{Every, Lawful, Means, Writable, replies, written}
-use Rattle.chip.specs.Datasheet.{Entry, Wanted, meaning}
+use Rattle.chip.specs.Datasheet.{Wanted, meaning}
+use Rattle.chip.specs.declared.entry.Entry.{Entry}
 use Rattle.makes.specs.Pac193x.{mask_193x, pac193x, rate_193x, width_193x}
 use Rattle.chip.specs.declared.state.Channel.{Channel}
 use Rattle.chip.specs.declared.state.Held.{Held}
@@ -18,13 +19,13 @@ use Rattle.makes.specs.Table.{bit, image_bus, image_sense}
 mark_shown : (n : ℕ) (b : Bool) → (((n / 2 * 2 + bit b) / 1) % 256 * 1 + 0) / 4 % 2 ≡ (n / 4) % 2
 mark_shown n b = let p = bit_at_most b in omega arith
 
-rate_shown : (n : ℕ) (b : Bool) → (((n / 2 * 2 + bit b) / 1) % 256) / 64 % 4 ≡ (n / 64) % 4
+rate_shown : (n : ℕ) (b : Bool) → (((n / 2 * 2 + bit b) / 1) % 256 * 1 + 0) / 64 % 4 ≡ (n / 64) % 4
 rate_shown n b = let p = bit_at_most b in omega arith
 
-pub flag_shown : (n : ℕ) (b : Bool) → (((n / 2 * 2 + bit b) / 1) % 256) % 2 ≡ bit b
+pub flag_shown : (n : ℕ) (b : Bool) → (((n / 2 * 2 + bit b) / 1) % 256 * 1 + 0) % 2 ≡ bit b
 flag_shown n b = let p = bit_at_most b in omega arith
 
-mask_shown : (n : ℕ) → ((n / 1) % 256 / 16) % 16 ≡ (n / 16) % 16
+mask_shown : (n : ℕ) → (((n / 1) % 256 * 1 + 0) / 16) % 16 ≡ (n / 16) % 16
 mask_shown n = omega arith
 
 abbrev control : Wanted → Bool → ℕ
@@ -100,8 +101,9 @@ lawful_193x = record {
       λ c ch l u. by_channel (λ ch. number (reply pac193x c (pac193x.code_at ch 1) 2) ≡ (channel (ch - 1) c.image.running).latest.sense % 65536)
       (two_bytes (image_sense 0 c.image)) (two_bytes (image_sense 1 c.image)) (two_bytes (image_sense 2 c.image)) (two_bytes (image_sense 3 c.image)) ch l u;
   polarity_readable = (omega arith, omega arith, omega arith, omega arith);
-  polarity_read = λ c. mask_back c.image.settings.polarity;
+  polarity_read = λ c. mask_shown c.image.settings.polarity;
+  few_replies = omega arith;
+  mark_short = omega arith;
+  polarity_short = omega arith;
+  tariff_fits = (omega arith, omega arith);
 }
-  where
-    mask_back : (n : ℕ) → (((n / 1) % 256 * 1 + 0) / 16) % 16 ≡ (n / 16) % 16
-    mask_back n = omega arith

@@ -1,13 +1,14 @@
 -- The PAC194X keeps the laws.
-use Rattle.std.specs.Prelude.{◌≡◌, ℕ, ◌+◌, ◌-◌, ◌*◌, ◌/◌, ◌%◌, ◌^◌, ◌<◌, ◌≤◌, Bool, true, false, ◌||◌, leb, List, [], ◌∷◌, length, ◌==◌, nat_eq, nat_le, refl}
+use Rattle.std.specs.Prelude.{◌≡◌, ℕ, ◌+◌, ◌-◌, ◌*◌, ◌/◌, ◌%◌, ◌^◌, ◌<◌, ◌≤◌, Bool, true, false, ◌||◌, List, [], ◌∷◌, length, ◌==◌, nat_eq, nat_le, refl}
 use Rattle.std.proofs.Common.{◌∙◌, ap, arith}
 use Rattle.std.proofs.lemmas.Bool.{le-leb, lt-leb}
 use Rattle.makes.specs.Layouts.{and_three, bit_at_most, bit_told, by_channel, by_mask, chip_with, codes_readable, four_bytes, four_of, offered_limits, one_sum, same_entry, same_wanted, seven_bytes, two_bytes}
 use Rattle.makes.specs.Layouts.{unlisted}
 use Rattle.chip.specs.Chip.{channel, entry_of, reply}
 use Rattle.chip.specs.Laws.{Every, Lawful, Means, Writable, replies, written}
-use Rattle.chip.specs.Datasheet.{Entry, Wanted, meaning}
-use Rattle.makes.specs.Pac194x.{control_194x, off_194x, pac194x, polarity_194x, rate_194x, two_way_194x, width_194x}
+use Rattle.chip.specs.Datasheet.{Wanted, meaning}
+use Rattle.chip.specs.declared.entry.Entry.{Entry}
+use Rattle.makes.specs.Pac194x.{flagged_194x, control_194x, off_194x, pac194x, polarity_194x, rate_194x, two_way_194x, width_194x}
 use Rattle.chip.specs.declared.state.Channel.{Channel}
 use Rattle.chip.specs.declared.state.Held.{Held}
 use Rattle.chip.specs.declared.state.Running.{Running}
@@ -56,7 +57,7 @@ way_shown n = rw two_bytes (four_ways _ _ _ _ _ _ _ _ (one n) (two n) (three n) 
         ≡ bit (a' == 1) * 8 + bit (b' == 1) * 4 + bit (c' == 1) * 2 + bit (d' == 1)
     four_ways a b c d a' b' c' d' p q r s = rw (p, q, r, s) refl
 
-pub flags_shown : (f g : Bool) → bit (nat_le 1 ((((bit f * 8 + bit g * 4) / 1) % 256 / 4) % 4)) ≡ bit (f || g)
+pub flags_shown : (f g : Bool) → flagged_194x (number (big_endian 3 (bit f * 8 + bit g * 4))) ≡ bit (f || g)
 flags_shown true true = refl
 flags_shown true false = refl
 flags_shown false true = refl
@@ -143,7 +144,7 @@ lawful_194x = record {
   counts_fit = omega arith;
   widths_fit = narrow;
   addresses_fit = omega arith;
-  no_product = λ i l b k. let z : leb i 3 ≡ false = lt-leb _ _ (omega arith) in rw z refl;
+  no_product = λ i l b k. let z : nat_le i 3 ≡ false = lt-leb _ _ (omega arith) in rw z refl;
   fresh_mark = refl;
   zero_offered = refl;
   meaning_offered = offered;
@@ -168,4 +169,8 @@ lawful_194x = record {
       (two_bytes (image_sense 0 c.image)) (two_bytes (image_sense 1 c.image)) (two_bytes (image_sense 2 c.image)) (two_bytes (image_sense 3 c.image)) ch l u;
   polarity_readable = (omega arith, omega arith, omega arith, omega arith);
   polarity_read = λ c. way_shown c.image.settings.polarity;
+  few_replies = omega arith;
+  mark_short = omega arith;
+  polarity_short = omega arith;
+  tariff_fits = (omega arith, omega arith);
 }

@@ -7,7 +7,8 @@ use Rattle.chip.specs.declared.state.Running.{Running}
 use Rattle.chip.specs.declared.state.Held.{Held}
 use Rattle.chip.specs.declared.state.Settings.{Settings}
 use Rattle.chip.specs.declared.state.State.{State}
-use Rattle.chip.specs.Datasheet.{Datasheet, Entry, Wanted}
+use Rattle.chip.specs.Datasheet.{Datasheet, Wanted}
+use Rattle.chip.specs.declared.entry.Entry.{Entry}
 use Rattle.chip.specs.Laws.{Readable}
 use Rattle.chip.specs.Registers.{big_endian, in_mask, number, value_of}
 use Rattle.makes.specs.Table.{a_command, bit, code_from_07h, four_channel_offer}

@@ -1,13 +1,14 @@
 -- The PAC193X.
-use Rattle.std.specs.Prelude.{ℕ, ◌+◌, ◌*◌, ◌/◌, ◌%◌, Bool, cond, ◌&&◌, List, [], ◌∷◌, take, ℤ, pos, Some, None, Option, ◌==◌, nat_le, slice_index, slice_index_or}
+use Rattle.std.specs.Prelude.{ℕ, ◌+◌, ◌*◌, ◌/◌, ◌%◌, Bool, cond, ◌&&◌, List, [], ◌∷◌, ℤ, pos, Some, None, Option, ◌==◌, nat_le}
 use Rattle.std.specs.Int.{int_div_euclid}
+use Rattle.chip.specs.declared.entry.Entry.{Entry}
 use Rattle.chip.specs.declared.state.Codes.{Codes}
 use Rattle.chip.specs.declared.state.Held.{Held}
 use Rattle.chip.specs.declared.state.Running.{Running}
 use Rattle.chip.specs.declared.state.State.{State}
 use Rattle.chip.specs.Chip.{spoilt}
-use Rattle.chip.specs.Datasheet.{Datasheet, Entry}
-use Rattle.chip.specs.Registers.{value_of, number}
+use Rattle.chip.specs.Datasheet.{Datasheet}
+use Rattle.chip.specs.Registers.{value_of, register_at}
 use Rattle.makes.specs.Table.{image_shows, a_command, four_channel_offer, code_from_07h, bit, product, sums_in}
 
 -- floor(v/4) × floor(s/4), on four channels
@@ -62,16 +63,16 @@ mark_193x control = (control / 4) % 2 == 1
 abbrev pub mask_193x : (register : ℕ) → ℕ
 mask_193x register = (register / 16) % 16
 
--- the first reply: count and four sums; the second: control, channels and polarity of the image
-abbrev pub entry_193x : (first second : List ℕ) → (draw : ℕ) → Entry
-entry_193x bs gs n = record {
+-- count and four sums, then control, channels and polarity of the image
+abbrev pub entry_193x : (replies : List ℕ) → (draw : ℕ) → Entry
+entry_193x bs n = record {
   draw = n;
-  spoilt = slice_index gs 0 % 2;
-  count = number (take 3 bs);
-  rate = rate_193x (slice_index gs 0);
-  off = mask_193x (slice_index gs 1);
-  two_way = mask_193x (slice_index gs 2);
-  sums = sums_in 6 48 (mask_193x (slice_index gs 2)) 3 bs;
+  spoilt = register_at 27 1 bs % 2;
+  count = register_at 0 3 bs;
+  rate = rate_193x (register_at 27 1 bs);
+  off = mask_193x (register_at 28 1 bs);
+  two_way = mask_193x (register_at 29 1 bs);
+  sums = sums_in 6 48 (mask_193x (register_at 29 1 bs)) 3 bs;
 }
 
 abbrev pub pac193x : Datasheet
@@ -95,12 +96,12 @@ pac193x = record {
   offers = four_channel_offer;
   settings_writes = λ w b. (0x01, (w.rate * 64 + bit b * 4) ∷ []) ∷ (0x1C, (w.off * 16) ∷ []) ∷ (0x1D, (w.two_way * 16) ∷ []) ∷ [];
   mark_at = (0x21, 1);
-  mark_in = λ bs. mark_193x (number bs);
+  mark_in = mark_193x;
   booking_reads = (0x02, 27) ∷ (0x24, 3) ∷ [];
-  entry_in = λ rs n. entry_193x (slice_index_or rs 0 []) (slice_index_or rs 1 []) n;
+  entry_in = entry_193x;
   code_at = code_from_07h;
   polarity_at = (0x26, 1);
-  two_way_in = λ bs. mask_193x (number bs);
+  two_way_in = mask_193x;
   volts = 32;
   tariff = record { factor = 15625; power = 27 };
 }

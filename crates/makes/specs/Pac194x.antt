@@ -1,11 +1,12 @@
 -- The PAC194X.
-use Rattle.std.specs.Prelude.{ℕ, ◌+◌, ◌*◌, ◌/◌, ◌%◌, Bool, cond, ◌&&◌, List, [], ◌∷◌, take, drop, ℤ, Some, None, Option, ◌==◌, nat_le, slice_index, slice_index_or}
+use Rattle.std.specs.Prelude.{ℕ, ◌+◌, ◌*◌, ◌/◌, ◌%◌, Bool, cond, ◌&&◌, List, [], ◌∷◌, ℤ, Some, None, Option, ◌==◌, nat_le}
+use Rattle.chip.specs.declared.entry.Entry.{Entry}
 use Rattle.chip.specs.declared.state.Codes.{Codes}
 use Rattle.chip.specs.declared.state.Held.{Held}
 use Rattle.chip.specs.declared.state.Running.{Running}
 use Rattle.chip.specs.declared.state.State.{State}
-use Rattle.chip.specs.Datasheet.{Datasheet, Wanted, Entry}
-use Rattle.chip.specs.Registers.{value_of, number, big_endian}
+use Rattle.chip.specs.Datasheet.{Datasheet, Wanted}
+use Rattle.chip.specs.Registers.{value_of, register_at, big_endian}
 use Rattle.makes.specs.Table.{image_shows, a_command, four_channel_offer, code_from_07h, bit, product, sums_in}
 
 -- floor(v/4) × s, on four channels
@@ -77,16 +78,20 @@ polarity_194x mask = ((mask / 8) % 2) * 16384 + ((mask / 4) % 2) * 4096 + ((mask
 abbrev pub control_194x : Wanted → (mark : Bool) → ℕ
 control_194x w b = (4 + w.rate) * 4096 + bit b * 1024 + w.off * 16
 
--- the first reply: count and four sums; the second: control and polarity of the image, two bytes each, 00h, and the flags in the last of three bytes
-abbrev pub entry_194x : (first second : List ℕ) → (draw : ℕ) → Entry
-entry_194x bs gs n = record {
+-- either flag, in bits 3 and 2
+abbrev pub flagged_194x : (flags : ℕ) → ℕ
+flagged_194x flags = bit (nat_le 1 ((flags / 4) % 4))
+
+-- count and four sums, then control, polarity, a byte of 00h and flags of the image
+abbrev pub entry_194x : (replies : List ℕ) → (draw : ℕ) → Entry
+entry_194x bs n = record {
   draw = n;
-  spoilt = bit (nat_le 1 ((slice_index gs 7 / 4) % 4));
-  count = number (take 4 bs);
-  rate = rate_194x (number (take 2 gs));
-  off = off_194x (number (take 2 gs));
-  two_way = two_way_194x (number (take 2 (drop 2 gs)));
-  sums = sums_in 7 56 (two_way_194x (number (take 2 (drop 2 gs)))) 4 bs;
+  spoilt = flagged_194x (register_at 37 3 bs);
+  count = register_at 0 4 bs;
+  rate = rate_194x (register_at 32 2 bs);
+  off = off_194x (register_at 32 2 bs);
+  two_way = two_way_194x (register_at 34 2 bs);
+  sums = sums_in 7 56 (two_way_194x (register_at 34 2 bs)) 4 bs;
 }
 
 abbrev pub pac194x : Datasheet
@@ -110,12 +115,12 @@ pac194x = record {
   offers = four_channel_offer;
   settings_writes = λ w b. (0x01, big_endian 2 (control_194x w b)) ∷ (0x1D, big_endian 2 (polarity_194x w.two_way)) ∷ [];
   mark_at = (0x21, 2);
-  mark_in = λ bs. mark_194x (number bs);
+  mark_in = mark_194x;
   booking_reads = (0x02, 32) ∷ (0x23, 8) ∷ [];
-  entry_in = λ rs n. entry_194x (slice_index_or rs 0 []) (slice_index_or rs 1 []) n;
+  entry_in = entry_194x;
   code_at = code_from_07h;
   polarity_at = (0x24, 2);
-  two_way_in = λ bs. two_way_194x (number bs);
+  two_way_in = two_way_194x;
   volts = 9;
   tariff = record { factor = 140625; power = 34 };
 }

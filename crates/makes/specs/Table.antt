@@ -1,9 +1,9 @@
 -- What the register tables of the PAC193X and the PAC194X have in common.
-use Rattle.std.specs.Prelude.{ℕ, ◌+◌, ◌-◌, ◌*◌, ◌/◌, Bool, true, cond, ◌&&◌, List, [], ◌∷◌, take, drop, ℤ, pos, ◌*ℤ◌, ◌==◌, nat_le}
+use Rattle.std.specs.Prelude.{ℕ, ◌+◌, ◌-◌, ◌*◌, ◌/◌, Bool, true, cond, ◌&&◌, List, [], ◌∷◌, ℤ, pos, ◌*ℤ◌, ◌==◌, nat_le}
 use Rattle.chip.specs.declared.state.Image.{Image}
 use Rattle.chip.specs.Chip.{channel}
 use Rattle.chip.specs.Datasheet.{Wanted}
-use Rattle.chip.specs.Registers.{in_mask, value_of, bits_of, number}
+use Rattle.chip.specs.Registers.{in_mask, value_of, bits_of, register_at}
 
 -- the bus code's upper 14 bits times a sense value, on four channels
 abbrev pub product : (channel bus : ℕ) → (sense : ℤ) → ℤ
@@ -48,11 +48,11 @@ code_from_07h ch q = 0x06 + 4 * q + ch
 abbrev pub bit : Bool → ℕ
 bit b = cond b 1 0
 
--- four sums of so many bytes in a reply, from its byte at on
+-- four sums of so many bytes in the replies, from their byte at on
 abbrev pub sums_in : (bytes bits two_way at : ℕ) → List ℕ → List ℤ
 sums_in bytes bits two_way at bs =
-    value_of bits (in_mask two_way 0) (number (take bytes (drop at bs)))
-    ∷ value_of bits (in_mask two_way 1) (number (take bytes (drop (at + bytes) bs)))
-    ∷ value_of bits (in_mask two_way 2) (number (take bytes (drop (at + 2 * bytes) bs)))
-    ∷ value_of bits (in_mask two_way 3) (number (take bytes (drop (at + 3 * bytes) bs)))
+    value_of bits (in_mask two_way 0) (register_at at bytes bs)
+    ∷ value_of bits (in_mask two_way 1) (register_at (at + bytes) bytes bs)
+    ∷ value_of bits (in_mask two_way 2) (register_at (at + 2 * bytes) bytes bs)
+    ∷ value_of bits (in_mask two_way 3) (register_at (at + 3 * bytes) bytes bs)
     ∷ []

@@ -1,12 +1,16 @@
 //! The PAC193X.
 ghost use Rattle.std.specs.Prelude.{◌≡◌};
-ghost use Rattle.makes.specs.Pac193x.{pac193x, flagged};
+ghost use Rattle.makes.specs.Pac193x.{pac193x, flagged, mask_193x};
 ghost use Rattle.makes.specs.Lawful193x.{lawful_193x};
 
 use super::table;
+use chip::cursor::Cursor;
+use chip::driver::{RegisterWrite, Span};
+use chip::entry::Entry;
 use chip::make::Make;
 use chip::register;
-use chip::state::{Codes, Constants, Held, Masks, Running, Settings, State};
+use chip::state::{Codes, Constants, Held, Masks, Running, Settings, State, Tariff};
+use chip::wanted::Wanted;
 
 #[derive(Clone, Copy)]
 pub struct Pac193x;
@@ -19,6 +23,13 @@ fn flagged(control: u16, running: &Running) -> u64
     u64::from(control / 2 * 2) + u64::from(flag)
 }
 
+// Masks stand in bits 7-4.
+fn masked(register: u64) -> u8
+    ensures { result ≡ mask_193x register }
+{
+    (register / 16 % 16) as u8
+}
+
 impl Make for Pac193x {
     ghost sheet = { pac193x };
 
@@ -26,6 +37,7 @@ impl Make for Pac193x {
 
     fn constants() -> Constants {
         Constants {
+            channels: 4,
             sum_bits: 48,
             count_bits: 24,
             fresh: Settings {
@@ -36,6 +48,19 @@ impl Make for Pac193x {
             last_address: 0x26,
             refresh: 0x00,
             refresh_v: 0x1f,
+            mark: Span {
+                address: 0x21,
+                length: 1,
+            },
+            polarity: Span {
+                address: 0x26,
+                length: 1,
+            },
+            volts: 32,
+            tariff: Tariff {
+                factor: 15625,
+                power: 27,
+            },
         }
     }
 
@@ -46,8 +71,8 @@ impl Make for Pac193x {
 
     fn masks(settings: Settings) -> Masks {
         Masks {
-            off: settings.channels / 16,
-            two_way: (settings.polarity / 16 % 16) as u8,
+            off: masked(settings.channels as u64),
+            two_way: masked(settings.polarity as u64),
         }
     }
 
@@ -100,5 +125,62 @@ impl Make for Pac193x {
 
     fn command(address: u8) -> bool {
         table::command(address)
+    }
+
+    fn offers(_wanted: Wanted) -> bool {
+        true
+    }
+
+    fn settings_write(wanted: Wanted, mark: bool, i: usize) -> Option<RegisterWrite> {
+        match i {
+            0 => Some(RegisterWrite::of_byte(0x01, wanted.rate * 64 + mark as u8 * 4)),
+            1 => Some(RegisterWrite::of_byte(0x1c, wanted.off * 16)),
+            2 => Some(RegisterWrite::of_byte(0x1d, wanted.two_way * 16)),
+            _ => None,
+        }
+    }
+
+    fn mark_in(number: u64) -> bool {
+        number / 4 % 2 == 1
+    }
+
+    fn booking_read(i: usize) -> Option<Span> {
+        match i {
+            0 => Some(Span {
+                address: 0x02,
+                length: 27,
+            }),
+            1 => Some(Span {
+                address: 0x24,
+                length: 3,
+            }),
+            _ => None,
+        }
+    }
+
+    fn entry_in(replies: &[u8], draw: u32) -> Entry {
+        let mut settings = Cursor::new(replies);
+        settings.skip(27);
+        let control = settings.take(1);
+        let off = masked(settings.take(1));
+        let two_way = masked(settings.take(1));
+        let mut counters = Cursor::new(replies);
+        Entry {
+            draw,
+            spoilt: (control % 2) as u8,
+            count: counters.take(3) as u32,
+            rate: (control / 64 % 4) as u8,
+            off,
+            two_way,
+            sums: table::take_sums(&mut counters, 6, two_way),
+        }
+    }
+
+    fn code_at(channel: u8, quantity: u8) -> u16 {
+        table::code_at(channel, quantity)
+    }
+
+    fn two_way_in(number: u64) -> u8 {
+        masked(number)
     }
 }

@@ -1,12 +1,17 @@
 //! The PAC194X.
 ghost use Rattle.std.specs.Prelude.{◌≡◌, ◌/◌, ◌%◌, ◌<◌, ◌==◌};
-ghost use Rattle.makes.specs.Pac194x.{pac194x, flags_194x};
+ghost use Rattle.chip.specs.Driver.{wanted_of};
+ghost use Rattle.makes.specs.Pac194x.{pac194x, flags_194x, flagged_194x, two_way_194x, polarity_194x, control_194x};
 ghost use Rattle.makes.specs.Lawful194x.{lawful_194x};
 
 use super::table;
+use chip::cursor::Cursor;
+use chip::driver::{RegisterWrite, Span};
+use chip::entry::Entry;
 use chip::make::Make;
 use chip::register;
-use chip::state::{Codes, Constants, Held, Masks, Running, Settings, State};
+use chip::state::{Codes, Constants, Held, Masks, Running, Settings, State, Tariff};
+use chip::wanted::Wanted;
 
 #[derive(Clone, Copy)]
 pub struct Pac194x;
@@ -18,12 +23,42 @@ fn flags(running: &Running) -> u64
     u64::from(running.sum_flag) * 8 + u64::from(running.count_flag) * 4
 }
 
+// 1 if either flag is set.
+fn flagged(flags: u64) -> u8
+    ensures { result ≡ flagged_194x flags }
+{
+    (flags / 4 % 4 >= 1) as u8
+}
+
 // A channel's two bits of polarity: 01 is two-way, the rest one-way.
-fn is_two_way(polarity: u16, place: u16) -> bool
+fn is_two_way(polarity: u64, place: u64) -> bool
     requires { 0 < place }
     ensures { result ≡ (polarity / place % 4 == 1) }
 {
     polarity / place % 4 == 1
+}
+
+// The two-way mask that a polarity means.
+fn ways(polarity: u64) -> u8
+    ensures { result ≡ two_way_194x polarity }
+{
+    let way = |place| u8::from(is_two_way(polarity, place));
+    way(16384) * 8 + way(4096) * 4 + way(1024) * 2 + way(256)
+}
+
+// The polarity that means a two-way mask.
+fn polarity_of(mask: u8) -> u16
+    ensures { result ≡ polarity_194x mask }
+{
+    let high = (mask / 8 % 2) as u16 * 16384 + (mask / 4 % 2) as u16 * 4096;
+    high + (mask / 2 % 2) as u16 * 1024 + (mask % 2) as u16 * 256
+}
+
+// 4 + rate code in bits 15-12, the mark in bit 10, the off mask in bits 7-4.
+fn control_of(wanted: Wanted, mark: bool) -> u16
+    ensures { result ≡ control_194x (wanted_of wanted) mark }
+{
+    (4 + wanted.rate as u16) * 4096 + mark as u16 * 1024 + wanted.off as u16 * 16
 }
 
 impl Make for Pac194x {
@@ -33,6 +68,7 @@ impl Make for Pac194x {
 
     fn constants() -> Constants {
         Constants {
+            channels: 4,
             sum_bits: 56,
             count_bits: 32,
             fresh: Settings {
@@ -43,6 +79,19 @@ impl Make for Pac194x {
             last_address: 0x26,
             refresh: 0x00,
             refresh_v: 0x1f,
+            mark: Span {
+                address: 0x21,
+                length: 2,
+            },
+            polarity: Span {
+                address: 0x24,
+                length: 2,
+            },
+            volts: 9,
+            tariff: Tariff {
+                factor: 140625,
+                power: 34,
+            },
         }
     }
 
@@ -52,10 +101,9 @@ impl Make for Pac194x {
     }
 
     fn masks(settings: Settings) -> Masks {
-        let way = |place| u8::from(is_two_way(settings.polarity, place));
         Masks {
             off: (settings.control / 16 % 16) as u8,
-            two_way: way(16384) * 8 + way(4096) * 4 + way(1024) * 2 + way(256),
+            two_way: ways(u64::from(settings.polarity)),
         }
     }
 
@@ -110,5 +158,62 @@ impl Make for Pac194x {
 
     fn command(address: u8) -> bool {
         table::command(address)
+    }
+
+    fn offers(_wanted: Wanted) -> bool {
+        true
+    }
+
+    fn settings_write(wanted: Wanted, mark: bool, i: usize) -> Option<RegisterWrite> {
+        match i {
+            0 => Some(RegisterWrite::of_word(0x01, control_of(wanted, mark))),
+            1 => Some(RegisterWrite::of_word(0x1d, polarity_of(wanted.two_way))),
+            _ => None,
+        }
+    }
+
+    fn mark_in(number: u64) -> bool {
+        number / 1024 % 2 == 1
+    }
+
+    fn booking_read(i: usize) -> Option<Span> {
+        match i {
+            0 => Some(Span {
+                address: 0x02,
+                length: 32,
+            }),
+            1 => Some(Span {
+                address: 0x23,
+                length: 8,
+            }),
+            _ => None,
+        }
+    }
+
+    fn entry_in(replies: &[u8], draw: u32) -> Entry {
+        let mut settings = Cursor::new(replies);
+        settings.skip(32);
+        let control = settings.take(2);
+        let two_way = ways(settings.take(2));
+        settings.skip(1);
+        let spoilt = flagged(settings.take(3));
+        let mut counters = Cursor::new(replies);
+        Entry {
+            draw,
+            spoilt,
+            count: counters.take(4) as u32,
+            rate: (control / 4096 % 4) as u8,
+            off: (control / 16 % 16) as u8,
+            two_way,
+            sums: table::take_sums(&mut counters, 7, two_way),
+        }
+    }
+
+    fn code_at(channel: u8, quantity: u8) -> u16 {
+        table::code_at(channel, quantity)
+    }
+
+    fn two_way_in(number: u64) -> u8 {
+        ways(number)
     }
 }

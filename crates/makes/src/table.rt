@@ -1,8 +1,10 @@
 //! What the register tables of the PAC193X and the PAC194X have in common.
-ghost use Rattle.std.specs.Prelude.{◌≡◌, ◌/◌, pos, ◌*ℤ◌};
+ghost use Rattle.std.specs.Prelude.{◌≡◌, ◌*◌, ◌/◌, ◌≤◌, pos, ◌*ℤ◌};
 ghost use Rattle.chip.specs.Registers.{bits_of};
-ghost use Rattle.makes.specs.Table.{image_shows, a_command, product};
+ghost use Rattle.makes.specs.Table.{image_shows, a_command, code_from_07h, product, sums_in};
 
+use chip::cursor::Cursor;
+use chip::register;
 use chip::state::Image;
 
 // The bus code's upper 14 bits times a sense value, on four channels counted from 0.
@@ -44,4 +46,24 @@ pub(crate) fn command(address: u8) -> bool
     ensures { result ≡ a_command address }
 {
     matches!(address, 0x00 | 0x1e | 0x1f)
+}
+
+// Bus codes stand from 07h, sense codes from 0Bh.
+pub(crate) fn code_at(channel: u8, quantity: u8) -> u16
+    ensures { result ≡ code_from_07h channel quantity }
+{
+    0x06 + 4 * quantity as u16 + channel as u16
+}
+
+// Four sums of so many bytes, with their signs.
+pub(crate) fn take_sums(cursor: &mut Cursor, width: usize, two_way: u8) -> [i64; 4]
+    requires { width ≤ 7 }
+    ensures { result ≡ sums_in width (8 * width) two_way 0 cursor.old.rest.now }
+{
+    [
+        cursor.take_sum(width, register::in_mask(two_way, 0)),
+        cursor.take_sum(width, register::in_mask(two_way, 1)),
+        cursor.take_sum(width, register::in_mask(two_way, 2)),
+        cursor.take_sum(width, register::in_mask(two_way, 3)),
+    ]
 }
