@@ -5,9 +5,12 @@ use Rattle.chip.specs.declared.refusal.Refusal.{Refusal}
 use Rattle.chip.specs.declared.state.State.{State}
 use Rattle.chip.specs.Datasheet.{Datasheet}
 use Rattle.wire.specs.Wire.{Goes}
-use Rattle.account.specs.Calls.{MadeCall}
-use Rattle.account.specs.Dialogue.{Answer, Call, Meter, look, looked, refused}
+use Rattle.account.specs.Calls.{MadeBookCall, MadeCall}
+use Rattle.account.specs.Dialogue.{Answer, Call, Meter, bill_answer, bill_for, look, looked, refused}
 use Rattle.account.specs.Dialogue as machine
+use Rattle.book.specs.declared.bill.Bill.{Bill}
+use Rattle.book.specs.Billed.{bill_seen}
+use Rattle.book.specs.Book.{Pages}
 use Rattle.meter.specs.declared.reading.Reading.{Reading}
 use Rattle.meter.specs.Readings.{reading_of}
 
@@ -24,3 +27,7 @@ pub record LookAnswered (m : Datasheet) {W : Type 0} (chip_of : W → State) (go
 abbrev pub LookMade : (m : Datasheet) {W : Type 0} (chip_of : W → State) (goes : Goes W) (ch q : ℕ) (t : Meter) (u : W) (t' : Meter) (w : W) → Result Reading Refusal → Type 0
 LookMade m chip_of goes ch q t u t' w (Ok x) = LookAnswered m chip_of goes ch q t u t' w x
 LookMade m chip_of goes ch q t u t' w (Err e) = MadeAlone m chip_of goes (look ch q) t u t' w (refused e)
+
+-- a bill of the meter's own kind leaves the meter, the wire, the book, and whatever scratch there is
+pub record MadeBill (m : Datasheet) {W : Type 0} (chip_of : W → State) (goes : Goes W) (ch u : ℕ) (t : Meter) (w : W) (b : Pages) (r : Result Bill Refusal) : Type 0 where
+  pub made : (s : List ℕ) → MadeBookCall m chip_of goes (bill_for m ch u) t w b s t w b s (bill_answer (bill_seen r))

@@ -3,7 +3,7 @@ ghost use Rattle.std.specs.Prelude.{◌≡◌, ◌+◌, ◌≤◌, true, length}
 ghost use Rattle.account.specs.Calls.{MadeBookCall};
 ghost use Rattle.account.specs.Dialogue.{book as booking, write_off, fits_slip};
 ghost use Rattle.book.specs.Book.{pages};
-ghost use Rattle.meter.specs.Promises.{MadeAlone};
+ghost use Rattle.meter.specs.Promises.{MadeAlone, MadeBill};
 ghost use Rattle.meter.specs.Views.{book_answer, meter_of, slip_of, write_off_answer, GivesBack};
 
 use super::Meter;
@@ -11,6 +11,7 @@ use crate::condition::Condition;
 use crate::machine::Call;
 use crate::slip::{Slip, Unspent};
 use crate::{machine, transfer};
+use book::bill::Bill;
 use book::book::Book;
 use chip::entry::Entry;
 use chip::make::Make;
@@ -77,5 +78,12 @@ impl<W: Wire> Meter<W> {
         self.write_offs += 1;
         self.condition = Condition::Ready;
         Ok(())
+    }
+
+    // The bill of a book, by the tariff of the meter's own make: a channel (1 on) over a shunt in tenths of a milliohm. It sends nothing.
+    pub fn bill(&self, book: &Book<'_>, channel: u8, shunt: u16) -> Result<Bill, Refusal>
+        ensures { MadeBill W.Make.Make.sheet W.Wire.chip W.Wire.goes channel shunt (meter_of self.now) self.now.wire (pages book.now) result }
+    {
+        book.bill::<W::Make>(channel, shunt)
     }
 }

@@ -1,9 +1,11 @@
 // Making a meter, its cycles, its set-up, and what it shows of itself.
 ghost use Rattle.std.specs.Prelude.{◌≡◌, true};
-ghost use Rattle.account.specs.Calls.{Begun, MadeCycle};
+ghost use Rattle.account.specs.Calls.{Added, Begun, MadeCycle};
 ghost use Rattle.account.specs.Dialogue.{set_up};
 ghost use Rattle.meter.specs.Promises.{MadeAlone};
 ghost use Rattle.meter.specs.Views.{meter_of, set_up_answer};
+ghost use Rattle.wire.specs.Scripted.{seen};
+ghost use Rattle.wire.specs.Scripts.{added_to};
 
 use super::Meter;
 use crate::condition::Condition;
@@ -11,6 +13,7 @@ use chip::make::Make;
 use chip::refusal::Refusal;
 use chip::state::Codes;
 use chip::wanted::Wanted;
+use wire::scripted::Scripted;
 use wire::wire::Wire;
 
 const AT_FIRST: Wanted = Wanted {
@@ -57,7 +60,26 @@ impl<W: Wire> Meter<W> {
     }
 }
 
+impl<W: Wire> Meter<Scripted<W>> {
+    // Adds an outcome to the script of the meter's wire: 0 to 3, and 256 in all.
+    pub fn add(&mut self, outcome: u8) -> Result<(), Refusal>
+        ensures run { Added W.Make.Make.sheet (λ s. W.Wire.chip s.below) (meter_of self.old) self.old.wire (meter_of self.new) self.new.wire }
+        ensures below { self.new.wire.below ≡ self.old.wire.below }
+        ensures added { added_to self.old.wire.script outcome result self.new.wire.script }
+    {
+        self.wire.add(outcome)
+    }
+}
+
 impl<W> Meter<W> {
+    // Gives the wire back. The meter's account ends here.
+    pub fn release(self) -> W
+        ensures { result ≡ self.wire }
+    {
+        let Meter { wire, number: _, last: _, wanted: _, mark: _, write_offs: _, condition: _ } = self;
+        wire
+    }
+
     pub fn condition(&self) -> Condition
         ensures { result ≡ self.now.condition }
     {
