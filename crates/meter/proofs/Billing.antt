@@ -37,11 +37,13 @@ module _ (m : Datasheet) {W : Type 0} {chip_of : W → State} {goes : Goes W} {p
   within few = rw (le-leb b.filled (length b.places) few) refl
 
   pub bill_made : (r : Result code.Bill Refusal) → bill_seen r ≡ bill_of_pages m b ch u → MadeBill m chip_of goes ch u t w b r
-  bill_made r answers = record { made = λ s. record {
-    overfull = λ over. (ap bill_answer (answers ∙ beyond over), refl, refl, refl);
-    made = λ few. whole_call m is law (bill_for m ch u) (length b.places) (entries b) s
-        (subst (λ x. Followed goes (bills m t (length b.places) (entries b) ch u) w t w (bill_answer x))
-        (sym (answers ∙ within few)) ends_followed)
-        tt (nothing_added (bill_seen r) (entries b)) refl;
-    the_book = book_stays (bill_seen r) b;
-  } }
+  bill_made r answers = record {
+    made = λ s. record {
+      overfull = λ over. (ap bill_answer (answers ∙ beyond over), refl, refl, refl);
+      made = λ few. whole_call m is law (bill_for m ch u) (length b.places) (entries b) s
+          (subst (λ x. Followed goes (bills m t (length b.places) (entries b) ch u) w t w (bill_answer x))
+          (sym (answers ∙ within few)) ends_followed)
+          tt (nothing_added (bill_seen r) (entries b)) refl;
+      the_book = book_stays (bill_seen r) b;
+    };
+  }

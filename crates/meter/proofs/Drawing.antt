@@ -16,9 +16,9 @@ use Rattle.meter.specs.Settles.{failed_refresh, settles}
 use Rattle.meter.specs.Views.{condition_of}
 use Rattle.meter.specs.declared.condition.Condition.{Condition}
 use Rattle.meter.specs.declared.condition.Condition.TheVariants.{InDoubt, Ready, SlipOut, Unfinished}
-use Rattle.meter.specs.declared.machine.Call.TheVariants.{Draw}
-use Rattle.meter.specs.declared.machine.Move.{Move}
-use Rattle.meter.specs.declared.machine.Move.TheVariants.{AskMark}
+use Rattle.meter.specs.declared.meter.machine.Call.TheVariants.{Draw}
+use Rattle.meter.specs.declared.meter.machine.Move.{Move}
+use Rattle.meter.specs.declared.meter.machine.Move.TheVariants.{AskMark}
 use Rattle.wire.specs.Wire.{Goes, Heard, Transacted, denied, heard}
 
 -- what a draw does, by what the condition settles

@@ -19,8 +19,8 @@ use Rattle.meter.specs.Settles.{settles}
 use Rattle.meter.specs.Views.{condition_of}
 use Rattle.meter.specs.declared.condition.Condition.{Condition}
 use Rattle.meter.specs.declared.condition.Condition.TheVariants.{InDoubt, Ready, SlipOut, Unfinished}
-use Rattle.meter.specs.declared.machine.Call.TheVariants.{Look}
-use Rattle.meter.specs.declared.machine.Move.{Move}
+use Rattle.meter.specs.declared.meter.machine.Call.TheVariants.{Look}
+use Rattle.meter.specs.declared.meter.machine.Move.{Move}
 use Rattle.meter.specs.declared.reading.Reading as code
 use Rattle.wire.specs.Wire.{Goes, Heard, IsWire, Passes, Transacted, denied, heard}
 

@@ -5,10 +5,10 @@ use Rattle.chip.specs.declared.refusal.Refusal.TheVariants.{Limits, NotAcknowled
 use Rattle.chip.specs.declared.refusal.Refusal.TheVariants as refusal
 use Rattle.meter.specs.declared.condition.Condition.{Condition}
 use Rattle.meter.specs.declared.condition.Condition.TheVariants.{Ready, Unfinished, InDoubt, SlipOut}
-use Rattle.meter.specs.declared.machine.Call.{Call}
-use Rattle.meter.specs.declared.machine.Call.TheVariants.{Draw, Spend, Look}
-use Rattle.meter.specs.declared.machine.Move.{Move}
-use Rattle.meter.specs.declared.machine.Move.TheVariants as move
+use Rattle.meter.specs.declared.meter.machine.Call.{Call}
+use Rattle.meter.specs.declared.meter.machine.Call.TheVariants.{Draw, Spend, Look}
+use Rattle.meter.specs.declared.meter.machine.Move.{Move}
+use Rattle.meter.specs.declared.meter.machine.Move.TheVariants as move
 
 abbrev pub settles : Condition → Call → Result Move Refusal
 settles Ready Draw = Ok move.Refresh

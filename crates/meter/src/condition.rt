@@ -1,12 +1,13 @@
-// Where a meter stands between calls.
+//! Where a meter stands between calls.
 
-#[derive(Clone, Copy)]
+/// The condition of a meter. It and the call together settle every answer.
+#[derive(Clone, Copy, Debug, PartialEq, Eq)]
 pub enum Condition {
     Ready,
-    // a write or a REFRESH was not acknowledged, or a write broke
+    /// the last draw failed where nothing can have been carried out that matters: all is done again
     Unfinished,
-    // a REFRESH broke: nobody knows whether it was carried out
+    /// a REFRESH broke: nobody knows whether it was carried out
     InDoubt,
-    // the slip with this draw number is out
+    /// the slip with this draw number is out
     SlipOut(u32),
 }

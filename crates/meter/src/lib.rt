@@ -1,8 +1,7 @@
-// The meter over any wire: draws, bookings, write-offs, looks and bills.
+//! The meter over any wire: draws, bookings, write-offs, looks and bills.
 #![tactic(auto)]
 
 pub mod condition;
-mod machine;
 pub mod meter;
 pub mod reading;
 pub mod slip;

@@ -1,4 +1,4 @@
-// A meter. The struct stands alone in this file, since its ghost field imports whatever the file imports.
+//! A meter. The struct stands alone in this file, since its ghost field imports whatever the file imports.
 ghost use Rattle.std.specs.Prelude.{◌+◌, ◌≤◌};
 ghost use Rattle.meter.specs.Outstanding.{outstanding};
 
@@ -8,8 +8,10 @@ use chip::wanted::Wanted;
 mod bookings;
 mod draws;
 mod looks;
+mod machine;
 mod settings;
 
+/// A meter of a wire. It keeps what the next draw has to know, and never more than one slip out.
 pub struct Meter<W> {
     wire: W,
     number: u32,

@@ -1,10 +1,11 @@
-// What a look answers.
+//! What a look answers.
 ghost use Rattle.std.specs.Prelude.{◌≡◌, cond, pos};
 ghost use Rattle.chip.specs.Registers.{value_of};
 ghost use Rattle.meter.specs.Readings.{scaled};
 
 use chip::register;
 
+/// A voltage of the latest codes: at the bus, or over the shunt.
 #[derive(Clone, Copy)]
 pub enum Reading {
     Volts(f64),
@@ -22,7 +23,7 @@ impl Reading {
     pub(crate) fn of_bus(code: u16, full_scale: u8) -> Reading
         ensures { result ≡ Reading.Volts (scaled (pos code) full_scale 65536) }
     {
-        Reading::Volts(code as f64 * full_scale as f64 / STEPS as f64)
+        Reading::Volts(f64::from(code) * f64::from(full_scale) / f64::from(STEPS))
     }
 
     // A sense code, one-way or in two's complement.
@@ -31,6 +32,6 @@ impl Reading {
     {
         let value = register::sense_value(two_way, code);
         let steps = if two_way { STEPS / 2 } else { STEPS };
-        Reading::Millivolts(value as f64 * SENSE_SCALE as f64 / steps as f64)
+        Reading::Millivolts(f64::from(value) * f64::from(SENSE_SCALE) / f64::from(steps))
     }
 }

@@ -1,9 +1,9 @@
-// The slip of a draw. Whoever has one books it or writes it off.
+//! The slip of a draw. Whoever has one books it or writes it off.
 ghost use Rattle.std.specs.Prelude.{◌≡◌};
 
 use chip::refusal::Refusal;
 
-// It cannot be copied or made elsewhere, and its end asks what nothing proves: only a booking or a write-off spends it.
+/// It cannot be copied or made elsewhere, and its end asks what nothing proves: only a booking or a write-off spends it.
 pub struct Slip {
     meter: u32,
     draw: u32,
@@ -17,7 +17,7 @@ impl Drop for Slip {
     }
 }
 
-// A slip that was refused, given back, and why.
+/// A slip that was refused, given back, and why.
 pub struct Unspent {
     pub slip: Slip,
     pub refusal: Refusal,
@@ -30,12 +30,14 @@ impl Slip {
         Slip { meter, draw }
     }
 
+    /// The number of the meter that handed it out.
     pub fn meter(&self) -> u32
         ensures { result ≡ self.now.meter }
     {
         self.meter
     }
 
+    /// Its draw number.
     pub fn draw(&self) -> u32
         ensures { result ≡ self.now.draw }
     {

@@ -1,4 +1,4 @@
-// What the meter's calls send and read, over any wire.
+//! What the meter's calls send and read, over any wire.
 ghost use Rattle.std.specs.Prelude.{◌≡◌, ◌≤◌, length};
 ghost use Rattle.chip.specs.Driver.{wanted_of};
 ghost use Rattle.meter.specs.Parts.{NumberRead, Fetched, SettingsWritten, Gathered};

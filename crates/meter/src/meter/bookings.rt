@@ -1,4 +1,4 @@
-// Spending a slip: booking it or writing it off; and the bill of a meter's book.
+//! Spending a slip: booking it or writing it off; and the bill of a meter's book.
 ghost use Rattle.std.specs.Prelude.{◌≡◌, ◌+◌, ◌≤◌, true, length};
 ghost use Rattle.account.specs.Calls.{MadeBookCall};
 ghost use Rattle.account.specs.Dialogue.{book as booking, write_off, fits_slip};
@@ -7,10 +7,10 @@ ghost use Rattle.meter.specs.Promises.{MadeAlone, MadeBill};
 ghost use Rattle.meter.specs.Views.{book_answer, meter_of, slip_of, write_off_answer, GivesBack};
 
 use super::Meter;
+use super::machine::Call;
 use crate::condition::Condition;
-use crate::machine::Call;
 use crate::slip::{Slip, Unspent};
-use crate::{machine, transfer};
+use crate::transfer;
 use book::bill::Bill;
 use book::book::Book;
 use chip::entry::Entry;
@@ -24,16 +24,10 @@ impl<W: Wire> Meter<W> {
         ensures fits { result ≡ fits_slip (meter_of self.now) (slip_of slip.now) }
         ensures room { result ≡ true → self.now.write_offs + 1 ≤ self.now.last }
     {
-        if slip.meter() != self.number {
-            return false;
-        }
-        match machine::settle(self.condition, Call::Spend(slip.draw())) {
-            Ok(_) => true,
-            Err(_) => false,
-        }
+        slip.meter() == self.number && self.settle(Call::Spend(slip.draw())).is_ok()
     }
 
-    // Gives the stretch that waits its entry, at the next free place of the book. Refused, it gives the slip back.
+    /// Gives the stretch that waits its entry, at the next free place of the book. Refused, it gives the slip back.
     pub fn book(
         &mut self,
         slip: Slip,
@@ -66,7 +60,7 @@ impl<W: Wire> Meter<W> {
         }
     }
 
-    // Gives the stretch that waits up, and counts one. Refused, it gives the slip back.
+    /// Gives the stretch that waits up, and counts one. Refused, it gives the slip back.
     pub fn write_off(&mut self, slip: Slip) -> Result<(), Unspent>
         ensures made { MadeAlone W.Make.Make.sheet W.Wire.chip W.Wire.goes (write_off (slip_of slip)) (meter_of self.old) self.old.wire (meter_of self.new) self.new.wire (write_off_answer result) }
         ensures back { GivesBack slip result }
@@ -80,7 +74,7 @@ impl<W: Wire> Meter<W> {
         Ok(())
     }
 
-    // The bill of a book, by the tariff of the meter's own make: a channel (1 on) over a shunt in tenths of a milliohm. It sends nothing.
+    /// The bill of a book, by the tariff of the meter's own make: a channel (1 on) over a shunt in tenths of a milliohm. It sends nothing.
     pub fn bill(&self, book: &Book<'_>, channel: u8, shunt: u16) -> Result<Bill, Refusal>
         ensures { MadeBill W.Make.Make.sheet W.Wire.chip W.Wire.goes channel shunt (meter_of self.now) self.now.wire (pages book.now) result }
     {

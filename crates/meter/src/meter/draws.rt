@@ -1,4 +1,4 @@
-// Drawing: the settings' writes, REFRESH, and the slip.
+//! Drawing: the settings' writes, REFRESH, and the slip.
 ghost use Rattle.std.specs.Prelude.{◌≡◌, ◌+◌, ◌-◌, ◌^◌, ◌<◌};
 ghost use Rattle.account.specs.Calls.{Followed};
 ghost use Rattle.account.specs.Dialogue.{draw, drew, asks_mark, closes, refreshes};
@@ -6,30 +6,26 @@ ghost use Rattle.meter.specs.Promises.{MadeAlone};
 ghost use Rattle.meter.specs.Views.{draw_answer, meter_of, slip_of};
 
 use super::Meter;
+use super::machine::{Call, Move};
 use crate::condition::Condition;
-use crate::machine::{Call, Move};
 use crate::slip::Slip;
-use crate::{machine, transfer};
+use crate::transfer;
 use chip::make::Make;
 use chip::refusal::Refusal;
 use wire::wire::Wire;
 
 impl<W: Wire> Meter<W> {
-    // Closes a stretch and hands out its slip. In doubt it asks the chip first whether the last REFRESH was carried out.
+    /// Closes a stretch and hands out its slip. In doubt it asks the chip first whether the last REFRESH was carried out.
     pub fn draw(&mut self) -> Result<Slip, Refusal>
         ensures { MadeAlone W.Make.Make.sheet W.Wire.chip W.Wire.goes draw (meter_of self.old) self.old.wire (meter_of self.new) self.new.wire (draw_answer result) }
     {
-        match machine::settle(self.condition, Call::Draw) {
-            Err(e) => Err(e),
-            Ok(way) => {
-                if self.last == u32::MAX {
-                    return Err(Refusal::NumbersSpent);
-                }
-                match way {
-                    Move::AskMark => self.draw_in_doubt(),
-                    _ => self.refresh(),
-                }
-            }
+        let way = self.settle(Call::Draw)?;
+        if self.last == u32::MAX {
+            return Err(Refusal::NumbersSpent);
+        }
+        match way {
+            Move::AskMark => self.draw_in_doubt(),
+            _ => self.refresh(),
         }
     }
 
@@ -38,16 +34,11 @@ impl<W: Wire> Meter<W> {
         requires { self.old.last < 2 ^ 32 - 1 }
         ensures { self.old.condition ≡ Condition.InDoubt → Followed W.Wire.goes (asks_mark W.Make.Make.sheet (meter_of self.old)) self.old.wire (meter_of self.new) self.new.wire (draw_answer result) }
     {
-        match transfer::read_number(&mut self.wire, W::Make::constants().mark) {
-            Err(e) => Err(e),
-            Ok(number) => {
-                if W::Make::mark_in(number) != self.mark {
-                    Ok(self.hand_out())
-                } else {
-                    self.refresh()
-                }
-            }
+        let number = transfer::read_number(&mut self.wire, W::Make::constants().mark)?;
+        if W::Make::mark_in(number) != self.mark {
+            return Ok(self.hand_out());
         }
+        self.refresh()
     }
 
     // The wanted settings with the opposite mark, then REFRESH.
@@ -56,11 +47,11 @@ impl<W: Wire> Meter<W> {
         ensures { Followed W.Wire.goes (refreshes W.Make.Make.sheet (meter_of self.old)) self.old.wire (meter_of self.new) self.new.wire (draw_answer result) }
     {
         match transfer::write_settings(&mut self.wire, self.wanted, !self.mark) {
-            Err(e) => {
-                self.condition = Condition::Unfinished;
-                Err(e)
-            }
             Ok(()) => self.close(),
+            Err(refusal) => {
+                self.condition = Condition::Unfinished;
+                Err(refusal)
+            }
         }
     }
 
@@ -70,11 +61,11 @@ impl<W: Wire> Meter<W> {
         ensures { Followed W.Wire.goes (closes W.Make.Make.sheet (meter_of self.old)) self.old.wire (meter_of self.new) self.new.wire (draw_answer result) }
     {
         match self.wire.send(W::Make::constants().refresh) {
-            Err(e) => {
-                self.condition = machine::after_failed_refresh(e);
-                Err(e)
-            }
             Ok(()) => Ok(self.hand_out()),
+            Err(refusal) => {
+                self.condition = Condition::after_failed_refresh(refusal);
+                Err(refusal)
+            }
         }
     }
 

@@ -1,4 +1,4 @@
-// Looking at a channel's latest code.
+//! Looking at a channel's latest code.
 ghost use Rattle.std.specs.Prelude.{◌≡◌, ◌≤◌};
 ghost use Rattle.account.specs.Dialogue.{look_limits, looks_at, ready, sees};
 ghost use Rattle.meter.specs.Parts.{SeenSo};
@@ -6,9 +6,9 @@ ghost use Rattle.meter.specs.Promises.{LookMade};
 ghost use Rattle.meter.specs.Views.{meter_of};
 
 use super::Meter;
-use crate::machine::Call;
+use super::machine::Call;
 use crate::reading::Reading;
-use crate::{machine, transfer};
+use crate::transfer;
 use chip::driver::Span;
 use chip::make::Make;
 use chip::refusal::Refusal;
@@ -52,16 +52,14 @@ fn look_at<W: Wire>(wire: &mut W, channel: u8, quantity: u8) -> Result<Reading, 
 }
 
 impl<W: Wire> Meter<W> {
-    // A channel's latest code, 1 on: quantity 0 is the bus voltage, 1 the sense voltage.
+    /// A channel's latest code, 1 on: quantity 0 is the bus voltage, 1 the sense voltage.
     pub fn look(&mut self, channel: u8, quantity: u8) -> Result<Reading, Refusal>
         ensures { LookMade W.Make.Make.sheet W.Wire.chip W.Wire.goes channel quantity (meter_of self.old) self.old.wire (meter_of self.new) self.new.wire result }
     {
         if !within_limits::<W::Make>(channel, quantity) {
             return Err(Refusal::Limits);
         }
-        match machine::settle(self.condition, Call::Look) {
-            Err(e) => Err(e),
-            Ok(_) => look_at(&mut self.wire, channel, quantity),
-        }
+        self.settle(Call::Look)?;
+        look_at(&mut self.wire, channel, quantity)
     }
 }

@@ -10,8 +10,8 @@ returns-in-Err g c =
     let m = g.W.Make.Make.sheet in
     let t = meter_of c.args.self.now in
     let a = ap (λ x. x.refresh) c.constants.ensures in
-    subst (λ k. Followed g.W.Wire.goes (closes m t) c.args.self.now.wire (at t (condition_of k)) c.send.new.self (refused c.in-Err.e)) (sym c.after_failed_refresh-self.ensures)
-    (close_failed g.W.Wire.goes m t _ a c.in-Err.e c.in-Err.ensures)
+    subst (λ k. Followed g.W.Wire.goes (closes m t) c.args.self.now.wire (at t (condition_of k)) c.send.new.self (refused c.in-Err.refusal)) (sym c.after_failed_refresh-self.ensures)
+    (close_failed g.W.Wire.goes m t _ a c.in-Err.refusal c.in-Err.ensures)
 
 pub returns-in-Ok : goal.returns-in-Ok
 returns-in-Ok g c =

@@ -1,4 +1,5 @@
 use Rattle.std.proofs.Common.{◌≡◌, List, Ok, Err, Result, sym, refl, ap, ◌∙◌}
+use Rattle.std.proofs.lemmas.Result.{err_from_is_err_and}
 use Rattle.account.proofs.Wires.{ends_followed}
 use Rattle.account.specs.Dialogue.{asks_mark, draw, draws_at, refreshes}
 use Rattle.account.specs.History.{entries_after}
@@ -19,22 +20,23 @@ pub returns-then-self : goal.returns-then-self
 returns-then-self g c =
     let m = g.W.Make.Make.sheet in
     let t = meter_of c.args.self.now in
-    let w = some_way m t c.args.self.now.condition c.in-Ok.way (sym c.in-Ok.ensures) in
+    let w = some_way m t c.args.self.now.condition c.in_ok-way.way (sym c.in_ok-way.ensures) in
     made_alone m g.met.W.Wire.meant g.met.W.Make.Make.lawful draw
     (λ places es. rw w.1 (numbers_spent g.W.Wire.goes t w.0 c.if-self.true)) (λ s. tt) (λ ss s. refl) (λ es. refl)
 
-pub returns-in-Err : goal.returns-in-Err
-returns-in-Err g c =
+pub returns-in_err-way : goal.returns-in_err-way
+returns-in_err-way g c =
     let m = g.W.Make.Make.sheet in
     let t = meter_of c.args.self.now in
-    made_alone m g.met.W.Wire.meant g.met.W.Make.Make.lawful draw
-    (λ places es. rw (draw_refused m t c.args.self.now.condition c.in-Err.e (sym c.in-Err.ensures)) ends_followed) (λ s. tt) (λ ss s. refl) (λ es. refl)
+    let p = err_from_is_err_and c.from_residual.result c.from_residual.ensures.1 in
+    rw (p.1, p.2) (made_alone m g.met.W.Wire.meant g.met.W.Make.Make.lawful draw
+    (λ places es. rw (draw_refused m t c.args.self.now.condition _ (sym c.in_err-way.ensures)) ends_followed) (λ s. tt) (λ ss s. refl) (λ es. refl))
 
 pub returns-in-AskMark : goal.returns-in-AskMark
 returns-in-AskMark g c =
     let m = g.W.Make.Make.sheet in
     let t = meter_of c.args.self.now in
-    let doubt = asks_only_in_doubt m t c.args.self.now.condition (sym c.in-Ok.ensures ∙ ap Ok c.in-AskMark.is) in
+    let doubt = asks_only_in_doubt m t c.args.self.now.condition (sym c.in_ok-way.ensures ∙ ap Ok c.in-AskMark.is) in
     let way = ap (λ k. draws_at m t (condition_of k)) doubt in
     made_alone m g.met.W.Wire.meant g.met.W.Make.Make.lawful draw
     (λ places es. rw way (numbers_left g.W.Wire.goes t (asks_mark m t) c.if-self.false (c.draw_in_doubt.ensures doubt))) (λ s. tt) (λ ss s. refl)
@@ -44,7 +46,7 @@ pub returns-in_default : goal.returns-in_default
 returns-in_default g c =
     let m = g.W.Make.Make.sheet in
     let t = meter_of c.args.self.now in
-    let way = else_refreshes m t c.args.self.now.condition c.in-Ok.way (sym c.in-Ok.ensures) c.in_default.not-AskMark in
+    let way = else_refreshes m t c.args.self.now.condition c.in_ok-way.way (sym c.in_ok-way.ensures) c.in_default.not-AskMark in
     made_alone m g.met.W.Wire.meant g.met.W.Make.Make.lawful draw
     (λ places es. rw way (numbers_left g.W.Wire.goes t (refreshes m t) c.if-self.false c.refresh.ensures)) (λ s. tt) (λ ss s. refl)
     (none_added c.refresh.result)
