@@ -3,7 +3,7 @@ ghost use Rattle.std.specs.Prelude.{◌≡◌, ◌+◌, ◌≤◌, true, length}
 ghost use Rattle.account.specs.Calls.{MadeBookCall};
 ghost use Rattle.account.specs.Dialogue.{book as booking, write_off, fits_slip};
 ghost use Rattle.book.specs.Book.{pages};
-ghost use Rattle.meter.specs.Promises.{MadeAlone, MadeBill};
+ghost use Rattle.meter.specs.Promises.{EntryFor, MadeAlone, MadeBill};
 ghost use Rattle.meter.specs.Views.{book_answer, meter_of, slip_of, write_off_answer, GivesBack};
 
 use super::Meter;
@@ -17,6 +17,12 @@ use chip::entry::Entry;
 use chip::make::Make;
 use chip::refusal::Refusal;
 use wire::wire::Wire;
+
+// A booking asks for a scratch of so many bytes at least: no read of a make brings more at once.
+const LEAST_SCRATCH: usize = 32;
+
+// All replies to a booking's reads fit so many bytes, by the laws of a make.
+const MOST_REPLIES: usize = 64;
 
 impl<W: Wire> Meter<W> {
     // Whether a slip is the open one.
@@ -38,26 +44,40 @@ impl<W: Wire> Meter<W> {
         ensures back { GivesBack slip result }
         ensures same { book.new.places.ghost_name ≡ book.old.places.ghost_name }
     {
-        if !book.within_limits() || scratch.len() < 32 {
-            return Err(slip.refused(Refusal::Limits));
-        }
-        if !self.takes(&slip) {
-            return Err(slip.refused(Refusal::WrongSlip));
-        }
-        if book.is_full() {
-            return Err(slip.refused(Refusal::Full));
-        }
-        let mut replies = [0u8; 64];
-        match transfer::gather(&mut self.wire, scratch, &mut replies) {
-            Err(e) => Err(slip.refused(e)),
-            Ok(count) => {
-                let entry = W::Make::entry_in(&replies[0..count], slip.draw());
+        match self.entry_for(&slip, book, scratch) {
+            Ok(entry) => {
+                // A place is free: `entry_for` refuses a full book.
                 let _ = book.put(entry);
                 slip.spend();
                 self.condition = Condition::Ready;
                 Ok(entry)
             }
+            Err(refusal) => Err(slip.refused(refusal)),
         }
+    }
+
+    // All of a booking that can be refused: its tests, its reads, and the entry in their replies.
+    fn entry_for(
+        &mut self,
+        slip: &Slip,
+        book: &Book<'_>,
+        scratch: &mut [u8],
+    ) -> Result<Entry, Refusal>
+        ensures found { EntryFor W.Make.Make.sheet W.Wire.chip W.Wire.goes (slip_of slip.now) (meter_of self.old) self.old.wire (pages book.now) scratch.old self.new.wire scratch.new result }
+        ensures meter { meter_of self.new ≡ meter_of self.old }
+    {
+        if !book.within_limits() || scratch.len() < LEAST_SCRATCH {
+            return Err(Refusal::Limits);
+        }
+        if !self.takes(slip) {
+            return Err(Refusal::WrongSlip);
+        }
+        if book.is_full() {
+            return Err(Refusal::Full);
+        }
+        let mut replies = [0; MOST_REPLIES];
+        let count = transfer::gather(&mut self.wire, scratch, &mut replies)?;
+        Ok(W::Make::entry_in(&replies[..count], slip.draw()))
     }
 
     /// Gives the stretch that waits up, and counts one. Refused, it gives the slip back.
