@@ -15,7 +15,7 @@ use Rattle.chip.specs.declared.entry.Entry.{Entry}
 use Rattle.chip.specs.declared.state.State.{State}
 use Rattle.chip.specs.declared.state.Image.{Image}
 use Rattle.chip.specs.Registers.{number}
-use Rattle.account.specs.Statements.{Accounted, EveryRun, Fated, Found, HeldAt, Matches, Numbered, Rising, RunsWell, Settled, Steady, WaitsWell, given, newest_waits, off_count}
+use Rattle.account.specs.Statements.{Accounted, EveryRun, Fated, Statements, HeldAt, Matches, Numbered, Rising, RunsWell, Settled, Steady, WaitsWell, given, newest_waits, off_count}
 
 module _ (m : Datasheet) where
   all_settled : (c : State) (xs : List Closed) → Every (Fated m) xs → Settled m c xs
@@ -93,7 +93,7 @@ module _ (m : Datasheet) where
   module _ (law : Lawful m) (places number before : ℕ) where
     all_of : (last : ℕ) (t : Meter) → t.meter ≡ number → (c : State) (es : List Entry) (h : History) (u : Option Stretch)
         → (k : Kept m places before last t.write_offs t.wanted u c es h) → last ≤ t.last → t.last < 2 ^ 32
-        → HeldAt m before t.last (front u c.image k.xs) t.condition → Found m places number before t c es h
+        → HeldAt m before t.last (front u c.image k.xs) t.condition → Statements m places number before t c es h
     all_of last t serial c es h u k le small hd = record {
       serial = serial;
       chip = k.chip;
@@ -108,7 +108,7 @@ module _ (m : Datasheet) where
     }
 
     pub found : (last offs : ℕ) (w : Wanted) (b : Bool) (c : State) (es : List Entry) (h : History) (k : Condition) → Standing m law places before k last offs w b c es h
-        → Found m places number before (mk number last w b offs k) c es h
+        → Statements m places number before (mk number last w b offs k) c es h
     found last offs w b c es h ready i =
         all_of _ (mk number last w b offs ready) refl c es h None i.0 (omega arith) i.0.booked.small (none_waits i.0.xs i.0.booked.fated, i.0.booked.exact)
     found last offs w b c es h unfinished i =
@@ -122,5 +122,5 @@ module _ (m : Datasheet) where
 
 pub every_run : EveryRun
 every_run m law places number last t c es h l r =
-    subst (λ n. Found m places n last t c es h) (serial_kept m r) (found m law places t.meter last t.last t.write_offs t.wanted t.mark c es h t.condition
+    subst (λ n. Statements m places n last t c es h) (serial_kept m r) (found m law places t.meter last t.last t.write_offs t.wanted t.mark c es h t.condition
     (run_ok m law l r))

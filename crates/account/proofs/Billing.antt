@@ -6,9 +6,7 @@ use Rattle.std.proofs.lemmas.Int.{ints}
 use Rattle.std.proofs.lemmas.Bool.{and_parts, both_ways, cases_Bool, leb-true}
 use Rattle.std.specs.Int.{int_div_euclid}
 use Rattle.account.proofs.Keeping.{Kept, front}
-use Rattle.account.proofs.Talks.{mk}
 use Rattle.book.specs.Bill.{bill, bill_limits, bill_of, energy, first_bad, holds, sound_entries, spoilt_entries, weighed, weight}
-use Rattle.chip.specs.Chip.{spoilt}
 use Rattle.account.specs.History.{Closed, Fate, History, Stretch, got_entry, left_range, waits, was_lost, was_written_off, with_fate}
 use Rattle.chip.specs.Laws.{Every, Lawful}
 use Rattle.chip.specs.Datasheet.{Datasheet, Wanted}

@@ -5,7 +5,7 @@ use Rattle.std.proofs.lemmas.Int.{ints}
 use Rattle.std.proofs.lemmas.Bool.{both_ways, cond_both}
 use Rattle.account.proofs.Keeping.{Kept, front}
 use Rattle.chip.specs.Chip.{entry_of}
-use Rattle.account.specs.History.{Account, Closed, Fate, History, Stretch, account, booked, carried_out, cycle_came, got_entry, is_refresh, left_range, overtaken, settled, sum_over, waits, was_lost, was_written_off, written_off}
+use Rattle.account.specs.History.{Account, Closed, Fate, History, Stretch, account, booked, carried_out, cycle_came, got_entry, is_refresh, left_range, overtaken, fate_given, sum_over, waits, was_lost, was_written_off, written_off}
 use Rattle.chip.specs.Laws.{Every}
 use Rattle.chip.specs.Datasheet.{Datasheet, Wanted}
 use Rattle.chip.specs.declared.entry.Entry.{Entry}
@@ -30,12 +30,12 @@ module _ (m : Datasheet) (i : ℕ) where
       on was_written_off = refl
       on was_lost = refl
 
-  settled_total : (f : Fate) (xs : List Closed) (o : Stretch) (n : ℕ) → account_total (settled f (record { closed = xs; open_stretch = o; strays = n })) ≡ closed_total xs
+  settled_total : (f : Fate) (xs : List Closed) (o : Stretch) (n : ℕ) → account_total (fate_given f (record { closed = xs; open_stretch = o; strays = n })) ≡ closed_total xs
       +ℤ sum_over m i o.moments
   settled_total f [] o n = refl
   settled_total f (x ∷ xs) o n = on x.fate
     where
-      on : (g : Fate) → account_total (settled f (record { closed = record { stretch = x.stretch; left = x.left; fate = g } ∷ xs; open_stretch = o; strays = n }))
+      on : (g : Fate) → account_total (fate_given f (record { closed = record { stretch = x.stretch; left = x.left; fate = g } ∷ xs; open_stretch = o; strays = n }))
           ≡ closed_total (x ∷ xs) +ℤ sum_over m i o.moments
       on waits = refl
       on (got_entry e) = refl

@@ -5,8 +5,7 @@ use Rattle.account.proofs.Closing.{image_holds, tracks_match, zeroed_sound, zero
 use Rattle.account.proofs.Tracking.{Tracks, cycle_sound, cycle_tracks, cycled_keeps}
 use Rattle.book.specs.Bill.{holds}
 use Rattle.chip.specs.Chip.{Request, cycled, does, entry_of, fresh_chip, idle, latched, reacts, refreshed, with_held}
-use Rattle.account.specs.Dialogue.{book}
-use Rattle.account.specs.History.{Closed, Fate, Happening, History, Moment, Stretch, account, booked, carried_out, chip_after, chip_then, closes_on, cycle_came, cycle_on, got_entry, is_refresh, overtaken, settled, waits, was_lost, was_written_off, written_off}
+use Rattle.account.specs.History.{Closed, Fate, Happening, History, Moment, Stretch, account, booked, carried_out, chip_after, chip_then, closes_on, cycle_came, cycle_on, got_entry, is_refresh, overtaken, fate_given, waits, was_lost, was_written_off, written_off}
 use Rattle.chip.specs.Laws.{Every, Lawful, Sound, all_zero}
 use Rattle.chip.specs.Datasheet.{Datasheet, Wanted}
 use Rattle.chip.specs.declared.entry.Entry.{Entry}
@@ -176,7 +175,7 @@ module _ (m : Datasheet) (places : ℕ) where
     }
 
     -- what waits gets a fate
-    settle : (s : Stretch) (f : Fate) (x : Happening) (last' offs' : ℕ) (es' : List Entry) → chip_after m (x ∷ h) ≡ chip_after m h → account m (x ∷ h) ≡ settled f (account m h)
+    settle : (s : Stretch) (f : Fate) (x : Happening) (last' offs' : ℕ) (es' : List Entry) → chip_after m (x ∷ h) ≡ chip_after m h → account m (x ∷ h) ≡ fate_given f (account m h)
         → Kept before last offs w (Some s) c es h
         → ((xs : List Closed) → Booked before last offs es xs → Booked before last' offs' es' (record { stretch = s; left = c.image; fate = f } ∷ xs))
         → Kept before last' offs' w None c es' (x ∷ h)
@@ -184,7 +183,7 @@ module _ (m : Datasheet) (places : ℕ) where
       xs = record { stretch = s; left = c.image; fate = f } ∷ k.xs;
       o = k.o;
       chip = k.chip ∙ sym same;
-      account_is = acc ∙ ap (settled f) k.account_is;
+      account_is = acc ∙ ap (fate_given f) k.account_is;
       opened = k.opened;
       image_ok = k.image_ok;
       waiting = tt;

@@ -1,12 +1,12 @@
 -- What holds of each call by itself.
-use Rattle.std.proofs.Common.{◌≡◌, ℕ, zero, suc, ◌+◌, ◌-◌, ◌*◌, ◌≤◌, Bool, true, false, cond, not, ◌&&◌, eqb, leb, ◌⊎◌, List, [], ◌∷◌, ◌++◌, length, ℤ, Some, None, Option, sym, refl, ap, ◌∙◌, subst, ap₂, inl, inr, arith}
+use Rattle.std.proofs.Common.{◌≡◌, ℕ, suc, ◌+◌, ◌-◌, ◌≤◌, Bool, true, false, cond, not, ◌&&◌, eqb, leb, ◌⊎◌, List, [], ◌∷◌, ◌++◌, length, ℤ, Some, None, Option, sym, refl, ap, ◌∙◌, subst, ap₂, inl, inr, arith}
 use Rattle.std.proofs.lemmas.List.{append-nil}
 use Rattle.std.proofs.lemmas.Bool.{and_parts, both_ways, cond_both, eqb-false, eqb-true, leb-true}
 use Rattle.account.proofs.Walks.{does_refresh, does_refresh_v, went_exactly, went_read, went_write}
 use Rattle.account.proofs.Ways.{All, Wq, all_cond, followed, map_all, walked_to, wq_by, wq_cond}
 use Rattle.book.specs.Bill.{Bill, bill_limits, bill_of, first_bad, no_bill}
 use Rattle.chip.specs.Chip.{Request, address_of, latched, read, refreshed, reply, send, with_held, write}
-use Rattle.account.specs.Dialogue.{Answer, Call, Condition, Meter, Way, asks, asks_mark, at, bill_answer, bill_for, billed, bills, book, book_limits, closes, dialogue, draw, draws_at, Follows, looks, entered, enters, fits_slip, gathers, given_up, handed, hands, if_numbers_left, in_doubt, look, look_limits, looked, looks_at, millivolts, or_fails, ready, refreshes, refused, sees, set_up, sets, slip_out, stored, unfinished, unlike, volts, write_off}
+use Rattle.account.specs.Dialogue.{Answer, Call, Condition, Meter, Way, asks, asks_mark, bill_answer, bill_for, billed, bills, book, book_limits, closes, dialogue, draw, draws_at, Follows, looks, entered, enters, fits_slip, gathers, given_up, handed, hands, if_numbers_left, in_doubt, look, look_limits, looked, looks_at, millivolts, or_fails, ready, refreshes, refused, sees, set_up, sets, slip_out, stored, unfinished, unlike, volts, write_off}
 use Rattle.chip.specs.Laws.{Lawful, Means, written}
 use Rattle.chip.specs.Datasheet.{Datasheet, Wanted, meaning}
 use Rattle.chip.specs.declared.entry.Entry.{Entry}

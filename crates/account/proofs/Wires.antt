@@ -3,10 +3,10 @@ use Rattle.std.proofs.Common.{◌≡◌, ℕ, ◌^◌, ◌<◌, Bool, true, List
 use Rattle.std.proofs.lemmas.Bool.{both_ways}
 use Rattle.account.proofs.Assembly.{every_run}
 use Rattle.account.proofs.Manners.{word_kept}
-use Rattle.account.specs.Calls.{Added, OwnScratch, scratch_after, Begun, CarriesRuns, Followed, MadeCall, MadeCycle, MadeSteps, StepsSuffice}
+use Rattle.account.specs.Calls.{Added, OwnScratch, scratch_after, Begun, CarriesRuns, Followed, MadeCall, MadeCycle, MadeSteps}
 use Rattle.chip.specs.Chip.{Request, address_of, fresh_chip, sized}
 use Rattle.account.specs.Dialogue.{Answer, Call, Meter, Way, asks, dialogue, ended, ends, new_meter, stepped}
-use Rattle.account.specs.History.{History, Reached, called, carried_in, cycle_came, cycle_passed, entries_after, happened_after, made, scratched}
+use Rattle.account.specs.History.{History, Reached, called, carried_in, cycle_came, cycle_passed, entries_after, happened_after, made}
 use Rattle.chip.specs.Laws.{Lawful}
 use Rattle.chip.specs.Datasheet.{Datasheet}
 use Rattle.chip.specs.declared.entry.Entry.{Entry}
@@ -17,7 +17,7 @@ use Rattle.chip.specs.Refusals.{number_of}
 use Rattle.chip.specs.declared.state.State.{State}
 use Rattle.chip.specs.declared.state.Codes.{Codes}
 use Rattle.chip.specs.Registers.{number}
-use Rattle.account.specs.Statements.{Found}
+use Rattle.account.specs.Statements.{Statements}
 use Rattle.account.specs.Steps.{Along, Step, Trip, at_rest, goes_on, onward, stays}
 use Rattle.wire.specs.Wire.{Goes, Heard, IsWire, Passes, Reply, Transacted, answered, broken, denied, heard, told, too_short_or_long, transacted, unacknowledged}
 
@@ -32,13 +32,14 @@ module _ (m : Datasheet) {W : Type 0} {chip_of : W → State} {goes : Goes W} {p
         → MadeSteps m goes q t u places es s t' w es' s' r → MadeCall m chip_of goes q t u places es s t' w es' s' r
     made_call {q} {t} {u} {places} {es} {s} {t'} {w} {es'} {s'} {r} st = record {
       made = st;
+      chip = trip_along st.trip;
       word = word_kept m law q t t' (chip_of u) (chip_of w) places es st.steps r st.follows (trip_along st.trip);
       run = run;
     }
       where
         run : (number last : ℕ) (h : History) → last < 2 ^ 32 → Reached m places number last t (chip_of u) es h
             → Reached m places number last t' (chip_of w) es' (happened_after r (carried_in st.steps h))
-            × Found m places number last t' (chip_of w) es' (happened_after r (carried_in st.steps h))
+            × Statements m places number last t' (chip_of w) es' (happened_after r (carried_in st.steps h))
         run number last h l reached =
             let on = subst (λ x. Reached m places number last t' (chip_of w) x (happened_after r (carried_in st.steps h))) (sym st.the_book)
             (called q reached st.follows (trip_along st.trip)) in
@@ -48,7 +49,7 @@ module _ (m : Datasheet) {W : Type 0} {chip_of : W → State} {goes : Goes W} {p
     made_cycle {ks} {t} {u} {t'} {w} four p e = record { wire = p; chip = is.cycle u w ks p; meter = e; run = run }
       where
         run : (places number last : ℕ) (es : List Entry) (h : History) → last < 2 ^ 32 → Reached m places number last t (chip_of u) es h
-            → Reached m places number last t' (chip_of w) es (cycle_came ks ∷ h) × Found m places number last t' (chip_of w) es (cycle_came ks ∷ h)
+            → Reached m places number last t' (chip_of w) es (cycle_came ks ∷ h) × Statements m places number last t' (chip_of w) es (cycle_came ks ∷ h)
         run places number last es h l reached =
             let on =
             subst (λ x. Reached m places number last x (chip_of w) es (cycle_came ks ∷ h)) (sym e) (subst (λ x. Reached m places number last t x es (cycle_came ks ∷ h))
@@ -58,7 +59,7 @@ module _ (m : Datasheet) {W : Type 0} {chip_of : W → State} {goes : Goes W} {p
     pub begun : {number last : ℕ} {u w : W} {t : Meter} → w ≡ u → t ≡ new_meter number last → Begun m chip_of number last u t w
     begun {number} {last} {u} {w} {t} same new = record { wire = same; meter = new; run = run }
       where
-        run : (places : ℕ) → last < 2 ^ 32 → chip_of u ≡ fresh_chip m → Reached m places number last t (chip_of w) [] [] × Found m places number last t (chip_of w) [] []
+        run : (places : ℕ) → last < 2 ^ 32 → chip_of u ≡ fresh_chip m → Reached m places number last t (chip_of w) [] [] × Statements m places number last t (chip_of w) [] []
         run places l fresh =
             let on =
             subst (λ x. Reached m places number last x (chip_of w) [] []) (sym new) (subst (λ x. Reached m places number last (new_meter number last) x [] [])
@@ -130,13 +131,10 @@ pub added : (m : Datasheet) → Lawful m → {W : Type 0} {chip_of : W → State
 added m law {chip_of = chip_of} {t} {u} {t'} {w} same is = record { chip = same; meter = is; run = run }
   where
     run : (places number last : ℕ) (es : List Entry) (h : History) → last < 2 ^ 32 → Reached m places number last t (chip_of u) es h
-        → Reached m places number last t' (chip_of w) es h × Found m places number last t' (chip_of w) es h
+        → Reached m places number last t' (chip_of w) es h × Statements m places number last t' (chip_of w) es h
     run places number last es h l reached =
         let on = subst (λ x. Reached m places number last x (chip_of w) es h) (sym is) (subst (λ x. Reached m places number last t x es h) (sym same) reached) in
         (on, every_run m law places number last t' (chip_of w) es h l on)
-
-pub steps_suffice : StepsSuffice
-steps_suffice m law W chip_of goes passes is q t u places es s t' w es' s' r st = made_call m is law st
 
 pub carries_runs : (m : Datasheet) → Lawful m → {W : Type 0} {chip_of : W → State} {goes : Goes W} {passes : Passes W} → IsWire m chip_of goes passes
     → CarriesRuns m chip_of goes passes

@@ -1,6 +1,6 @@
 -- The meter, and each of its calls as what it asks of the wire and what it answers.
-use Rattle.std.specs.Prelude.{ℕ, ◌+◌, ◌-◌, ◌*◌, Bool, false, cond, not, ◌&&◌, List, [], ◌∷◌, ◌++◌, length, ℤ, pos, ◌*ℤ◌, ◌==◌, nat_le}
-use Rattle.chip.specs.Registers.{number, in_mask, value_of}
+use Rattle.std.specs.Prelude.{ℕ, ◌+◌, ◌-◌, Bool, false, cond, not, ◌&&◌, List, [], ◌∷◌, ◌++◌, length, ℤ, ◌==◌, nat_le}
+use Rattle.chip.specs.Registers.{number, in_mask}
 use Rattle.chip.specs.Datasheet.{Datasheet, Wanted}
 use Rattle.chip.specs.declared.entry.Entry.{Entry}
 use Rattle.chip.specs.Chip.{Request, read, write, send}
@@ -11,25 +11,32 @@ use Rattle.wire.specs.Wire.{Reply, answered, unacknowledged, broken}
 use Rattle.account.specs.Steps.{Step}
 use Rattle.book.specs.Bill.{Bill, bill_of, no_bill, bill, book_within}
 
+-- where a meter stands between calls
 pub data Condition : Type 0 where
   ready : Condition
   unfinished : Condition
   in_doubt : Condition
   slip_out : (draw : ℕ) → Condition
 
+-- all that a meter keeps
 pub record Meter : Type 0 where
+  -- its number
   pub meter : ℕ
   -- the last draw number used
   pub last : ℕ
+  -- the settings that the next REFRESH is to put in force
   pub wanted : Wanted
+  -- the mark of the settings in force, as the meter knows it
   pub mark : Bool
   pub write_offs : ℕ
   pub condition : Condition
 
+-- what a draw hands out: the meter's number and the draw number
 pub record Slip : Type 0 where
   pub meter : ℕ
   pub draw : ℕ
 
+-- nothing wanted, no mark, ready
 abbrev pub new_meter : (number last : ℕ) → Meter
 new_meter number last = record { meter = number; last = last; wanted = all_zero; mark = false; write_offs = 0; condition = ready }
 
@@ -38,15 +45,7 @@ pub data Reading : Type 0 where
   volts : (code : ℕ) → Reading
   millivolts : (two_way : Bool) → (code : ℕ) → Reading
 
--- its exact value is numerator / denominator
-abbrev pub numerator : Datasheet → Reading → ℤ
-numerator m (volts code) = pos (code * m.volts)
-numerator m (millivolts two_way code) = value_of 16 two_way code *ℤ pos 100
-
-abbrev pub denominator : Reading → ℕ
-denominator (volts code) = 65536
-denominator (millivolts two_way code) = cond two_way 32768 65536
-
+-- what a call answers
 pub data Answer : Type 0 where
   -- set-up taken
   stored : Answer
@@ -58,7 +57,7 @@ pub data Answer : Type 0 where
   billed : (energy : ℤ) (billed spoilt : ℕ) → Answer
   refused : Refusal → Answer
 
--- a call's way: it ends, or it asks and goes on by what comes back
+-- a talk with a wire: it ends, or it asks and goes on by what comes back
 pub data Dialogue (A : Type 0) : Type 0 where
   ends : A → Dialogue A
   asks : Request → (Reply → Dialogue A) → Dialogue A
@@ -69,9 +68,11 @@ pub data Follows {A : Type 0} : Dialogue A → List Step → A → Type 0 where
   stepped : {q : Request} {f : Reply → Dialogue A} {b : Bool} {r : Reply} {ss : List Step} {a : A} → Follows (f r) ss a
       → Follows (asks q f) (record { asked = q; carried = b; got = r } ∷ ss) a
 
+-- a call's way ends with the meter after it and its answer
 abbrev pub Way : Type 0
 Way = Dialogue (Meter × Answer)
 
+-- the meter in another condition
 abbrev pub at : Meter → Condition → Meter
 at t k = record { meter = t.meter; last = t.last; wanted = t.wanted; mark = t.mark; write_offs = t.write_offs; condition = k }
 
@@ -87,9 +88,11 @@ drew t = record {
       slip_out (t.last + 1);
 }
 
+-- the meter with other wanted settings
 abbrev pub wanting : Meter → Wanted → Meter
 wanting t w = record { meter = t.meter; last = t.last; wanted = w; mark = t.mark; write_offs = t.write_offs; condition = t.condition }
 
+-- one more write-off, and ready
 abbrev pub wrote_off : Meter → Meter
 wrote_off t = record {
   meter = t.meter;
@@ -101,6 +104,7 @@ wrote_off t = record {
       ready;
 }
 
+-- refused at once, with nothing asked
 abbrev pub refuses : Meter → Refusal → Way
 refuses t r = ends (t, refused r)
 
@@ -115,13 +119,15 @@ abbrev pub sets_up : Datasheet → Meter → Wanted → Way
 sets_up m t w = cond (m.offers w) (ends (wanting t w, stored)) (refuses t Limits)
 
 -- DRAW
+-- the slip is handed out
 abbrev pub hands : Meter → Way
 hands t = ends (drew t, handed (record { meter = t.meter; draw = t.last + 1 }))
 
--- not acknowledged, the draw is unfinished; broken, nobody knows whether it was carried out
+-- REFRESH: not acknowledged, the draw is unfinished; broken, nobody knows whether it was carried out
 abbrev pub closes : Datasheet → Meter → Way
 closes m t = asks (send m.refresh) (or_fails t unfinished in_doubt m.refresh (λ bs. hands t))
 
+-- the settings' writes, one after the other, and then REFRESH
 abbrev pub sets : Datasheet → Meter → List (ℕ × List ℕ) → Way
 sets m t [] = closes m t
 sets m t (p ∷ ps) = asks (write p.0 p.1) (or_fails t unfinished unfinished p.0 (λ bs. sets m t ps))
@@ -152,6 +158,7 @@ abbrev pub draws : Datasheet → Meter → Way
 draws m t = draws_at m t t.condition
 
 -- BOOKING AND WRITE-OFF
+-- a slip is the open one if its meter and its draw number are
 abbrev pub is_open : Meter → Slip → Condition → Bool
 is_open t p ready = false
 is_open t p unfinished = false
@@ -169,6 +176,7 @@ abbrev pub gathers : Meter → List (ℕ × ℕ) → (List ℕ → Way) → Way
 gathers t [] f = f []
 gathers t (p ∷ ps) f = asks (read p.0 p.1) (or_fails t t.condition t.condition p.0 (λ bs. gathers t ps (λ rs. f (bs ++ rs))))
 
+-- the reads of a booking, and the entry in their replies
 abbrev pub enters : Datasheet → Meter → Slip → Way
 enters m t p = gathers t m.booking_reads (λ rs. ends (at t ready, entered (m.entry_in rs p.draw)))
 
@@ -185,9 +193,11 @@ abbrev pub writes_off : Meter → Slip → Way
 writes_off t p = cond (fits_slip t p) (ends (wrote_off t, given_up)) (refuses t WrongSlip)
 
 -- LOOK
+-- a read of a look's; failed, the meter is ready
 abbrev pub reads_at : Meter → ℕ × ℕ → (List ℕ → Way) → Way
 reads_at t p f = asks (read p.0 p.1) (or_fails t ready ready p.0 f)
 
+-- the code, and for a sense code the image's polarity
 abbrev pub sees : Datasheet → Meter → (channel quantity : ℕ) → Way
 sees m t ch q =
     reads_at t (m.code_at ch q, 2) (λ bs.

@@ -83,8 +83,8 @@ abbrev pub stray : Account → Account
 stray a = record { closed = a.closed; open_stretch = a.open_stretch; strays = a.strays + 1 }
 
 -- what waits gets its fate; with nothing waiting it is a stray
-abbrev pub settled : Fate → Account → Account
-settled f a =
+abbrev pub fate_given : Fate → Account → Account
+fate_given f a =
     elim a.closed [
       | [] ↦ stray a
       | (x ∷ xs) ↦ elim x.fate [
@@ -154,15 +154,15 @@ module _ (m : Datasheet) where
   account [] = record { closed = []; open_stretch = record { opened_with = m.fresh; moments = [] }; strays = 0 }
   account (cycle_came ks ∷ h) = cycle_on ks (account h) (chip_after m h)
   account (carried_out q ∷ h) = cond (is_refresh q) (closes_on (account h) (chip_after m (carried_out q ∷ h))) (account h)
-  account (booked e ∷ h) = settled (got_entry e) (account h)
-  account (written_off ∷ h) = settled was_written_off (account h)
+  account (booked e ∷ h) = fate_given (got_entry e) (account h)
+  account (written_off ∷ h) = fate_given was_written_off (account h)
 
 -- what some steps add to what happened: the requests that the chip carried out
 abbrev pub carried_in : List Step → History → History
 carried_in [] h = h
 carried_in (s ∷ ss) h = carried_in ss (cond s.carried (carried_out s.asked ∷ h) h)
 
--- what an answer adds to the book, to what happened, and to the scratch
+-- what an answer adds to the book, and to what happened
 abbrev pub entries_after : Answer → List Entry → List Entry
 entries_after (entered e) es = es ++ e ∷ []
 entries_after stored es = es

@@ -1,5 +1,5 @@
 -- A make of one channel, with other addresses and one register a read: the theory does not rest on four.
-use Rattle.std.specs.Prelude.{ℕ, ◌+◌, ◌-◌, ◌*◌, ◌/◌, ◌%◌, Bool, cond, ◌&&◌, ◌||◌, List, [], ◌∷◌, ℤ, pos, ◌*ℤ◌, Some, None, Option, ◌==◌, nat_le}
+use Rattle.std.specs.Prelude.{ℕ, ◌+◌, ◌*◌, ◌/◌, ◌%◌, Bool, cond, ◌&&◌, ◌||◌, List, [], ◌∷◌, ℤ, pos, ◌*ℤ◌, Some, None, Option, ◌==◌, nat_le}
 use Rattle.chip.specs.declared.state.Codes.{Codes}
 use Rattle.chip.specs.declared.state.Running.{Running}
 use Rattle.chip.specs.declared.state.State.{State}

@@ -197,7 +197,7 @@ module _ (m : Datasheet) where
       × IsFloor z (worth (ch - 1) (account m h).closed) u)
 
   -- ALL OF IT, at one moment of a run of the meter of this number: before is the last draw number used when it was made
-  pub record Found (places number before : ℕ) (t : Meter) (c : State) (es : List Entry) (h : History) : Type 0 where
+  pub record Statements (places number before : ℕ) (t : Meter) (c : State) (es : List Entry) (h : History) : Type 0 where
     pub serial : t.meter ≡ number
     pub chip : c ≡ chip_after m h
     pub accounted : Accounted before t c es h
@@ -211,7 +211,7 @@ module _ (m : Datasheet) where
 
   abbrev pub EveryRunOf : Type 0
   EveryRunOf = (places number last : ℕ) (t : Meter) (c : State) (es : List Entry) (h : History) → last < 2 ^ 32
-      → Reached m places number last t c es h → Found places number last t c es h
+      → Reached m places number last t c es h → Statements places number last t c es h
 
   -- EACH CALL
 

@@ -1,5 +1,5 @@
 -- The figures worked on the bench, and runs that show that the statements speak of something.
-use Rattle.std.specs.Prelude.{◌≡◌, ℕ, false, List, [], ◌∷◌, ◌++◌, length, ℤ, pos, negsuc}
+use Rattle.std.specs.Prelude.{◌≡◌, ℕ, false, List, [], ◌∷◌, ◌++◌, ℤ, pos, negsuc}
 use Rattle.chip.specs.declared.state.State.{State}
 use Rattle.chip.specs.Datasheet.{Datasheet}
 use Rattle.chip.specs.declared.entry.Entry.{Entry}
@@ -11,8 +11,8 @@ use Rattle.wire.specs.declared.outcome.Outcome.TheVariants.{Pass, DropReply}
 use Rattle.wire.specs.Direct.{DirectGoes}
 use Rattle.makes.specs.Figures.{Figures, on_one}
 use Rattle.book.specs.Bill.{bill, bill_of}
-use Rattle.account.specs.Dialogue.{Meter, new_meter, handed, refused, Follows, draws}
-use Rattle.account.specs.History.{History, Reached}
+use Rattle.account.specs.Dialogue.{Meter, new_meter, handed, entered, refused, Follows, book, dialogue, draws, in_doubt}
+use Rattle.account.specs.History.{History, Reached, carried_in, happened_after}
 use Rattle.account.specs.Statements.{refresh_carried}
 use Rattle.makes.specs.Pac193x.{pac193x}
 use Rattle.makes.specs.Pac194x.{pac194x}
@@ -69,7 +69,7 @@ pub record Worked : Type 0 where
   pub bills : BillFigures
   pub lost_reply : LostReply
 
--- runs of a make: one ends with a sound entry, one with a write-off, one goes through doubt after a lost acknowledgement and is booked
+-- runs of a make: one ends with a sound entry, one with a write-off
 pub record SoundRun (m : Datasheet) : Type 0 where
   pub t : Meter
   pub c : State
@@ -87,23 +87,29 @@ pub record WriteOffRun (m : Datasheet) : Type 0 where
   pub run : Reached m 64 1 0 t c [] h
   pub counted : t.write_offs ≡ 1
 
+-- a REFRESH whose acknowledgement got lost leaves the meter in doubt; one transaction later it hands the slip out; and with that slip the stretch is booked
 pub record DoubtRun (m : Datasheet) : Type 0 where
-  pub u : Meter
+  pub doubtful : Meter
+  pub drawn : Meter
   pub t : Meter
+  pub a : State
   pub b : State
   pub c : State
   pub e : Entry
   pub g : History
-  pub h : History
-  pub steps : List Step
-  -- in doubt, and then with one transaction the slip
-  pub run_to_doubt : Reached m 64 1 0 u b [] g
-  pub settles : (d : Meter) × (x : State) × Follows (draws m u) steps (d, handed (record { meter = 1; draw = 1 })) × Along m b steps x
-  pub one_step : length steps ≡ 1
-  pub run : Reached m 64 1 0 t c (e ∷ []) h
+  pub asked : Step
+  pub reads : List Step
+  pub run_to_doubt : Reached m 64 1 0 doubtful a [] g
+  pub in_doubt_then : doubtful.condition ≡ in_doubt
+  pub settled : Follows (draws m doubtful) (asked ∷ []) (drawn, handed (record { meter = 1; draw = 1 }))
+  pub settled_along : Along m a (asked ∷ []) b
+  pub booked : Follows (dialogue m (book (record { meter = 1; draw = 1 }) 32) drawn 64 []) reads (t, entered e)
+  pub booked_along : Along m b reads c
+  pub run : Reached m 64 1 0 t c (e ∷ []) (happened_after (entered e) (carried_in reads (carried_in (asked ∷ []) g)))
   pub sound : e.spoilt ≡ 0
   pub counted : e.count ≡ 1
 
+-- a run that ends with a spoilt entry
 pub record SpoiltRun (m : Datasheet) : Type 0 where
   pub t : Meter
   pub c : State

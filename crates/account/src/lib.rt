@@ -27,9 +27,9 @@ pub fn wires_carry_runs<W: Wire>()
     ensures { CarriesRuns W.Make.Make.sheet W.Wire.chip W.Wire.goes W.Wire.passes }
 {}
 
-/// On direct and scripted wires every call's answer, and all that it leaves, is settled by what was there before.
+/// On direct and scripted wires every call is settled by what was there before: its answer, its transactions, and all that it leaves.
 pub fn calls_are_exact<M: Make>()
-    ensures { CallsExact M.Make.sheet }
+    ensures { CallsExact M.Make.sheet M }
 {}
 
 /// A booking fills the next free place and leaves every other.
