@@ -1,10 +1,10 @@
-// Settings as a user wants them. The struct stands alone in this file, since its ghost fields import whatever the file imports.
+//! Settings as a user wants them. The struct stands alone in this file, since its ghost fields import whatever the file imports.
 ghost use Rattle.std.specs.Prelude.{◌≤◌};
 
 mod limits;
 
-// A rate code, an off mask and a two-way mask within the limits that all makes share.
-#[derive(Clone, Copy)]
+/// A rate code, an off mask and a two-way mask within the limits that all makes share.
+#[derive(Clone, Copy, Debug, PartialEq, Eq)]
 pub struct Wanted {
     pub rate: u8,
     pub off: u8,

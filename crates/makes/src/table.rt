@@ -52,7 +52,7 @@ pub(crate) fn command(address: u8) -> bool
 pub(crate) fn code_at(channel: u8, quantity: u8) -> u16
     ensures { result ≡ code_from_07h channel quantity }
 {
-    0x06 + 4 * quantity as u16 + channel as u16
+    0x06 + 4 * u16::from(quantity) + u16::from(channel)
 }
 
 // Four sums of so many bytes, with their signs.
