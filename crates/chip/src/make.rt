@@ -1,5 +1,5 @@
 //! A make of chip: what code has to know of it, each function tied to the make's data sheet in specs/.
-ghost use Rattle.std.specs.Prelude.{◌≡◌};
+ghost use Rattle.std.specs.Prelude.{◌≡◌, ◌%◌};
 ghost use Rattle.chip.specs.Datasheet.{Datasheet, masks_of};
 ghost use Rattle.chip.specs.Driver.{constants_of, spans_of, wanted_of, writes_of};
 ghost use Rattle.chip.specs.Laws.{Lawful};
@@ -60,9 +60,9 @@ pub trait Make {
     fn entry_in(replies: &[u8], draw: u32) -> Entry
         ensures { result ≡ sheet.entry_in replies.now draw };
 
-    /// Where a code is read: channel 1 on; 0 the bus code, 1 the sense code.
-    fn code_at(channel: u8, quantity: u8) -> u16
-        ensures { result ≡ sheet.code_at channel quantity };
+    /// Where a code is read: channel 1 on; 0 the bus code, 1 the sense code. An address is a byte, and so is each that is listed.
+    fn code_at(channel: u8, quantity: u8) -> u8
+        ensures { result ≡ sheet.code_at channel quantity % 256 };
 
     /// The two-way mask in the number read as the image's polarity.
     fn two_way_in(number: u64) -> u8

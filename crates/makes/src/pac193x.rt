@@ -175,7 +175,7 @@ impl Make for Pac193x {
         }
     }
 
-    fn code_at(channel: u8, quantity: u8) -> u16 {
+    fn code_at(channel: u8, quantity: u8) -> u8 {
         table::code_at(channel, quantity)
     }
 

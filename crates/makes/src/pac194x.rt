@@ -208,7 +208,7 @@ impl Make for Pac194x {
         }
     }
 
-    fn code_at(channel: u8, quantity: u8) -> u16 {
+    fn code_at(channel: u8, quantity: u8) -> u8 {
         table::code_at(channel, quantity)
     }
 
