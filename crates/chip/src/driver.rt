@@ -24,6 +24,7 @@ pub struct RegisterWrite {
 pub type SettingsWrites = ArrayVec<RegisterWrite, 3>;
 
 impl RegisterWrite {
+    /// One byte.
     pub fn of_byte(address: u8, byte: u8) -> RegisterWrite
         ensures { write_of result ≡ (address, byte ∷ []) }
     {
