@@ -57,7 +57,7 @@ fn sums_hold<M: Make>(two_way: u8, sums: &[i64]) -> bool
 fn holds<M: Make>(entry: &Entry) -> bool
     ensures { result ≡ holds M.Make.sheet entry.now }
 {
-    let Some(wanted) = Wanted::new(entry.rate, entry.off, entry.two_way) else {
+    let Ok(wanted) = Wanted::new(entry.rate, entry.off, entry.two_way) else {
         return false;
     };
     M::offers(wanted)

@@ -3,4 +3,3 @@ pub mod Cycles
 pub mod Fills
 pub mod Ranges
 pub mod Soundness
-pub mod Clips

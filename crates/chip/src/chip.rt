@@ -20,6 +20,7 @@ pub fn is_readable(length: usize) -> bool
     (1..=LONGEST_READ).contains(&length)
 }
 
+/// A chip of one make.
 #[derive(Drop)]
 pub struct Chip<M> {
     state: State,
@@ -27,6 +28,7 @@ pub struct Chip<M> {
 }
 
 impl<M: Make> Chip<M> {
+    /// A fresh one.
     pub fn new() -> Chip<M>
         ensures { result.state ≡ fresh_chip M.Make.sheet }
     {

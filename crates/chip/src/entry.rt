@@ -1,15 +1,20 @@
-// One line of a book.
+//! One line of a book.
 
-// What an image says of the cycles behind it, under a draw number. The definitions in specs/ speak of this very type.
-#[derive(Clone, Copy)]
+/// What an image says of the cycles behind it, under a draw number. The definitions in specs/ speak of this very type.
+#[derive(Clone, Copy, Debug, PartialEq, Eq)]
 pub struct Entry {
+    /// the number of the slip
     pub draw: u32,
-    // 1 if a sum or the count left its range
+    /// 1 if a sum or the count left its range
     pub spoilt: u8,
+    /// how many cycles
     pub count: u32,
+    /// the rate code, 0 to 3
     pub rate: u8,
+    /// the channels that were off: bit 3 is channel 1, bit 0 channel 4
     pub off: u8,
+    /// those that were two-way, in the same bits
     pub two_way: u8,
-    // channel 1 comes first
+    /// what the sum registers held, with their signs; channel 1 comes first
     pub sums: [i64; 4],
 }

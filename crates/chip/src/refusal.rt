@@ -12,6 +12,7 @@ pub enum Who {
     Chip,
 }
 
+/// Why a call was refused.
 #[derive(Clone, Copy, Debug, PartialEq, Eq)]
 pub enum Refusal {
     /// a number, read length, scratch or book outside its limits
@@ -70,6 +71,7 @@ impl Refusal {
         }
     }
 
+    /// Who refused, where a transaction was.
     pub fn refused_by(self) -> Option<Who>
         ensures { result ≡ refused_by self }
     {
@@ -80,6 +82,7 @@ impl Refusal {
         }
     }
 
+    /// The address of a transaction that was refused.
     pub fn at_address(self) -> Option<u8>
         ensures { result ≡ at_address self }
     {
@@ -90,6 +93,7 @@ impl Refusal {
         }
     }
 
+    /// The place of a bad entry.
     pub fn at_place(self) -> Option<u16>
         ensures { result ≡ at_place self }
     {

@@ -23,9 +23,11 @@ pub struct Codes {
     pub sense: u16,
 }
 
+/// What one channel has converted.
 #[derive(Clone, Copy)]
 pub struct Channel {
     pub latest: Codes,
+    /// the latest one, with its sign
     pub product: i64,
     /// the sum register (accumulator), as bits
     pub sum: u64,
@@ -54,6 +56,7 @@ pub struct Held {
     pub byte: u8,
 }
 
+/// All that a chip holds.
 #[derive(Clone, Copy)]
 pub struct State {
     pub held: Held,
@@ -87,10 +90,11 @@ pub struct Constants {
     pub last_address: u8,
     pub refresh: u8,
     pub refresh_v: u8,
-    // where the mark in force and the image's polarity are read
+    /// where the mark in force is read
     pub mark: Span,
+    /// where the image's polarity is read
     pub polarity: Span,
-    // the bus code's full scale in volts
+    /// the bus code's full scale in volts
     pub volts: u8,
     pub tariff: Tariff,
 }

@@ -5,13 +5,14 @@ ghost use Rattle.makes.specs.Lawful193x.{lawful_193x};
 
 use super::table;
 use chip::cursor::Cursor;
-use chip::driver::{RegisterWrite, Span};
+use chip::driver::{RegisterWrite, SettingsWrites, Span};
 use chip::entry::Entry;
 use chip::make::Make;
 use chip::register;
 use chip::state::{Codes, Constants, Held, Masks, Running, Settings, State, Tariff};
 use chip::wanted::Wanted;
 
+/// The make PAC193X.
 #[derive(Clone, Copy)]
 pub struct Pac193x;
 
@@ -71,8 +72,8 @@ impl Make for Pac193x {
 
     fn masks(settings: Settings) -> Masks {
         Masks {
-            off: masked(settings.channels as u64),
-            two_way: masked(settings.polarity as u64),
+            off: masked(u64::from(settings.channels)),
+            two_way: masked(u64::from(settings.polarity)),
         }
     }
 
@@ -131,31 +132,29 @@ impl Make for Pac193x {
         true
     }
 
-    fn settings_write(wanted: Wanted, mark: bool, i: usize) -> Option<RegisterWrite> {
-        match i {
-            0 => Some(RegisterWrite::of_byte(0x01, wanted.rate * 64 + mark as u8 * 4)),
-            1 => Some(RegisterWrite::of_byte(0x1c, wanted.off * 16)),
-            2 => Some(RegisterWrite::of_byte(0x1d, wanted.two_way * 16)),
-            _ => None,
-        }
+    fn settings_writes(wanted: Wanted, mark: bool) -> SettingsWrites {
+        SettingsWrites::from([
+            RegisterWrite::of_byte(0x01, wanted.rate * 64 + u8::from(mark) * 4),
+            RegisterWrite::of_byte(0x1c, wanted.off * 16),
+            RegisterWrite::of_byte(0x1d, wanted.two_way * 16),
+        ])
     }
 
     fn mark_in(number: u64) -> bool {
         number / 4 % 2 == 1
     }
 
-    fn booking_read(i: usize) -> Option<Span> {
-        match i {
-            0 => Some(Span {
+    fn booking_reads() -> &'static [Span] {
+        &[
+            Span {
                 address: 0x02,
                 length: 27,
-            }),
-            1 => Some(Span {
+            },
+            Span {
                 address: 0x24,
                 length: 3,
-            }),
-            _ => None,
-        }
+            },
+        ]
     }
 
     fn entry_in(replies: &[u8], draw: u32) -> Entry {
@@ -176,7 +175,7 @@ impl Make for Pac193x {
         }
     }
 
-    fn code_at(channel: u8, quantity: u8) -> u16 {
+    fn code_at(channel: u8, quantity: u8) -> u8 {
         table::code_at(channel, quantity)
     }
 

@@ -6,13 +6,14 @@ ghost use Rattle.makes.specs.Lawful194x.{lawful_194x};
 
 use super::table;
 use chip::cursor::Cursor;
-use chip::driver::{RegisterWrite, Span};
+use chip::driver::{RegisterWrite, SettingsWrites, Span};
 use chip::entry::Entry;
 use chip::make::Make;
 use chip::register;
 use chip::state::{Codes, Constants, Held, Masks, Running, Settings, State, Tariff};
 use chip::wanted::Wanted;
 
+/// The make PAC194X.
 #[derive(Clone, Copy)]
 pub struct Pac194x;
 
@@ -27,7 +28,7 @@ fn flags(running: &Running) -> u64
 fn flagged(flags: u64) -> u8
     ensures { result ≡ flagged_194x flags }
 {
-    (flags / 4 % 4 >= 1) as u8
+    u8::from(flags / 4 % 4 >= 1)
 }
 
 // A channel's two bits of polarity: 01 is two-way, the rest one-way.
@@ -50,15 +51,15 @@ fn ways(polarity: u64) -> u8
 fn polarity_of(mask: u8) -> u16
     ensures { result ≡ polarity_194x mask }
 {
-    let high = (mask / 8 % 2) as u16 * 16384 + (mask / 4 % 2) as u16 * 4096;
-    high + (mask / 2 % 2) as u16 * 1024 + (mask % 2) as u16 * 256
+    let way = |place: u8| u16::from(mask / place % 2);
+    way(8) * 16384 + way(4) * 4096 + way(2) * 1024 + way(1) * 256
 }
 
 // 4 + rate code in bits 15-12, the mark in bit 10, the off mask in bits 7-4.
 fn control_of(wanted: Wanted, mark: bool) -> u16
     ensures { result ≡ control_194x (wanted_of wanted) mark }
 {
-    (4 + wanted.rate as u16) * 4096 + mark as u16 * 1024 + wanted.off as u16 * 16
+    (4 + u16::from(wanted.rate)) * 4096 + u16::from(mark) * 1024 + u16::from(wanted.off) * 16
 }
 
 impl Make for Pac194x {
@@ -164,30 +165,28 @@ impl Make for Pac194x {
         true
     }
 
-    fn settings_write(wanted: Wanted, mark: bool, i: usize) -> Option<RegisterWrite> {
-        match i {
-            0 => Some(RegisterWrite::of_word(0x01, control_of(wanted, mark))),
-            1 => Some(RegisterWrite::of_word(0x1d, polarity_of(wanted.two_way))),
-            _ => None,
-        }
+    fn settings_writes(wanted: Wanted, mark: bool) -> SettingsWrites {
+        let mut writes = SettingsWrites::new();
+        writes.push(RegisterWrite::of_word(0x01, control_of(wanted, mark)));
+        writes.push(RegisterWrite::of_word(0x1d, polarity_of(wanted.two_way)));
+        writes
     }
 
     fn mark_in(number: u64) -> bool {
         number / 1024 % 2 == 1
     }
 
-    fn booking_read(i: usize) -> Option<Span> {
-        match i {
-            0 => Some(Span {
+    fn booking_reads() -> &'static [Span] {
+        &[
+            Span {
                 address: 0x02,
                 length: 32,
-            }),
-            1 => Some(Span {
+            },
+            Span {
                 address: 0x23,
                 length: 8,
-            }),
-            _ => None,
-        }
+            },
+        ]
     }
 
     fn entry_in(replies: &[u8], draw: u32) -> Entry {
@@ -209,7 +208,7 @@ impl Make for Pac194x {
         }
     }
 
-    fn code_at(channel: u8, quantity: u8) -> u16 {
+    fn code_at(channel: u8, quantity: u8) -> u8 {
         table::code_at(channel, quantity)
     }
 

@@ -1,5 +1,5 @@
 //! What the register tables of the PAC193X and the PAC194X have in common.
-ghost use Rattle.std.specs.Prelude.{◌≡◌, ◌*◌, ◌/◌, ◌≤◌, pos, ◌*ℤ◌};
+ghost use Rattle.std.specs.Prelude.{◌≡◌, ◌*◌, ◌/◌, ◌%◌, ◌≤◌, pos, ◌*ℤ◌};
 ghost use Rattle.chip.specs.Registers.{bits_of};
 ghost use Rattle.makes.specs.Table.{image_shows, a_command, code_from_07h, product, sums_in};
 
@@ -49,10 +49,11 @@ pub(crate) fn command(address: u8) -> bool
 }
 
 // Bus codes stand from 07h, sense codes from 0Bh.
-pub(crate) fn code_at(channel: u8, quantity: u8) -> u16
-    ensures { result ≡ code_from_07h channel quantity }
+pub(crate) fn code_at(channel: u8, quantity: u8) -> u8
+    ensures { result ≡ code_from_07h channel quantity % 256 }
 {
-    0x06 + 4 * quantity as u16 + channel as u16
+    let address = 0x06 + 4 * u16::from(quantity) + u16::from(channel);
+    (address % 256) as u8
 }
 
 // Four sums of so many bytes, with their signs.

@@ -2,6 +2,7 @@ pub mod Alone
 pub mod Offers
 pub mod Slices
 pub mod Failing
+pub mod Items
 pub mod Writing
 pub mod Gathering
 pub mod Drawing

@@ -39,10 +39,9 @@ pub(crate) fn write_settings<W: Wire>(
 ) -> Result<(), Refusal>
     ensures { SettingsWritten W.Wire.goes W.Make.Make.sheet (W.Make.Make.sheet.settings_writes (wanted_of wanted) mark) wire.old result wire.new }
 {
-    let mut i = 0;
-    while let Some(write) = W::Make::settings_write(wanted, mark, i) {
+    let writes = W::Make::settings_writes(wanted, mark);
+    for write in writes.as_slice() {
         wire.write(write.address, write.bytes())?;
-        i += 1;
     }
     Ok(())
 }
@@ -73,12 +72,10 @@ pub(crate) fn gather<W: Wire>(
     ensures { Gathered W.Wire.goes W.Make.Make.sheet.booking_reads wire.old scratch.old result replies.new wire.new scratch.new }
 {
     let mut end = 0;
-    let mut i = 0;
-    while let Some(span) = W::Make::booking_read(i) {
+    for span in W::Make::booking_reads() {
         let start = end;
         end += span.length;
         fetch(wire, span.address, scratch, &mut replies[start..end])?;
-        i += 1;
     }
     Ok(end)
 }

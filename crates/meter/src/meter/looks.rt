@@ -28,7 +28,7 @@ fn see<W: Wire>(wire: &mut W, channel: u8, quantity: u8) -> Result<Reading, Refu
     ensures { SeenSo W.Wire.goes W.Make.Make.sheet (λ t. sees W.Make.Make.sheet t channel quantity) wire.old result wire.new }
 {
     let code_at = Span {
-        address: W::Make::code_at(channel, quantity) as u8,
+        address: W::Make::code_at(channel, quantity),
         length: 2,
     };
     let code = transfer::read_number(wire, code_at)? as u16;

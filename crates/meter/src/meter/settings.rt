@@ -49,9 +49,7 @@ impl<W: Wire> Meter<W> {
     pub fn set_up(&mut self, rate: u8, off: u8, two_way: u8) -> Result<(), Refusal>
         ensures { MadeAlone W.Make.Make.sheet W.Wire.chip W.Wire.goes (set_up (record { rate = rate; off = off; two_way = two_way })) (meter_of self.old) self.old.wire (meter_of self.new) self.new.wire (set_up_answer result) }
     {
-        let Some(wanted) = Wanted::new(rate, off, two_way) else {
-            return Err(Refusal::Limits);
-        };
+        let wanted = Wanted::new(rate, off, two_way)?;
         if !W::Make::offers(wanted) {
             return Err(Refusal::Limits);
         }

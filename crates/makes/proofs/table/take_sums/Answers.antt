@@ -1,4 +1,4 @@
-use Rattle.std.proofs.Common.{◌+◌, ◌*◌, [], ◌∷◌, refl, ◌∙◌, arith, w64, SFits, rules}
+use Rattle.std.proofs.Common.{◌+◌, ◌*◌, [], ◌∷◌, refl, ◌∙◌, arith, w64}
 use Rattle.std.proofs.lemmas.Int.{to_z-of_z}
 use Rattle.makes.proofs.Takes.{moved_sum, taken_sum}
 use Rattle.makes.proofs.table.take_sums.Goals as goal

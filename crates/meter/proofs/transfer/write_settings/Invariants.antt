@@ -1,4 +1,4 @@
-use Rattle.std.proofs.Common.{◌-◌, length, drop}
+use Rattle.std.proofs.Common.{drop}
 use Rattle.account.specs.Dialogue.{Meter, sets}
 use Rattle.chip.specs.Driver.{wanted_of}
 use Rattle.meter.proofs.transfer.write_settings.Given as goal
@@ -7,8 +7,5 @@ use Rattle.meter.specs.Parts.{Leads}
 abbrev pub invariant-loop-write : goal.invariant-loop-write
 invariant-loop-write g l =
     let m = g.W.Make.Make.sheet in
-    let ps = m.settings_writes (wanted_of l.wanted) l.mark in
-    (t : Meter) → Leads g.W.Wire.goes (sets m t ps) l.initial.wire (sets m t (drop l.i ps)) l.wire
-
-abbrev pub decreases-loop-write : goal.decreases-loop-write
-decreases-loop-write g l = length (g.W.Make.Make.sheet.settings_writes (wanted_of l.wanted) l.mark) - l.i
+    let ps = m.settings_writes (wanted_of l.fn.wanted) l.mark in
+    (t : Meter) → Leads g.W.Wire.goes (sets m t ps) l.initial.wire (sets m t (drop l.write-index ps)) l.wire

@@ -1,4 +1,4 @@
-use Rattle.std.proofs.Common.{◌≡◌, ◌*◌, ◌^◌, ◌<◌, ◌≤◌, min, take, drop, nat_abs, ap, ◌∙◌, ap₂, arith, pow_mono, w64, SFits, to_z, of_z}
+use Rattle.std.proofs.Common.{◌≡◌, ◌*◌, ◌^◌, ◌<◌, ◌≤◌, min, take, drop, nat_abs, ap, ◌∙◌, ap₂, arith, pow_mono, w64, to_z, of_z}
 use mir.Syntax.{w128}
 use Rattle.std.proofs.lemmas.Int.{ints}
 use Rattle.chip.proofs.Bytes.{more_room}
