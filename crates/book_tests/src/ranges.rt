@@ -53,32 +53,15 @@ fn in_turn(entry: Entry, sum: i64) -> [Entry; 3] {
     ]
 }
 
-// A sum's range, one-way 0 to the largest, two-way a half of it each way.
-fn sums<M: Make>(rt: &impl Abort, bits: u32) {
-    assert!(rt; bits < 63);
-    let size = 1i64 << bits;
-    let half = size / 2;
-    for (entry, sum) in [
-        (ONE_WAY, -1),
-        (ONE_WAY, size),
-        (ONE_WAY, i64::MAX),
-        (ONE_WAY, i64::MIN),
-        (TWO_WAY, half),
-        (TWO_WAY, -half - 1),
-        (TWO_WAY, i64::MAX),
-        (TWO_WAY, i64::MIN),
-    ] {
+// Sums beyond a register on all channels and on each, and sums at its edges.
+fn sums<M: Make>(rt: &impl Abort, beyond: [(Entry, i64); 8], within: [(Entry, i64); 4]) {
+    for (entry, sum) in beyond {
         refuses_both::<M>(rt, with_sum(entry, sum));
         for bad in in_turn(entry, sum) {
             refuses_both::<M>(rt, bad);
         }
     }
-    for (entry, sum) in [
-        (ONE_WAY, 0),
-        (ONE_WAY, size - 1),
-        (TWO_WAY, half - 1),
-        (TWO_WAY, -half),
-    ] {
+    for (entry, sum) in within {
         for good in in_turn(entry, sum) {
             takes::<M>(rt, good);
         }
@@ -86,9 +69,49 @@ fn sums<M: Make>(rt: &impl Abort, bits: u32) {
 }
 
 #[test]
-fn sums_of_both_makes(rt: HostRuntime) {
-    sums::<Pac193x>(&rt, 48);
-    sums::<Pac194x>(&rt, 56);
+fn sums_of_a_193x(rt: HostRuntime) {
+    sums::<Pac193x>(
+        &rt,
+        [
+            (ONE_WAY, -1),
+            (ONE_WAY, 0x1_0000_0000_0000),
+            (ONE_WAY, i64::MAX),
+            (ONE_WAY, i64::MIN),
+            (TWO_WAY, 0x8000_0000_0000),
+            (TWO_WAY, -0x8000_0000_0001),
+            (TWO_WAY, i64::MAX),
+            (TWO_WAY, i64::MIN),
+        ],
+        [
+            (ONE_WAY, 0),
+            (ONE_WAY, 0xffff_ffff_ffff),
+            (TWO_WAY, 0x7fff_ffff_ffff),
+            (TWO_WAY, -0x8000_0000_0000),
+        ],
+    );
+}
+
+#[test]
+fn sums_of_a_194x(rt: HostRuntime) {
+    sums::<Pac194x>(
+        &rt,
+        [
+            (ONE_WAY, -1),
+            (ONE_WAY, 0x100_0000_0000_0000),
+            (ONE_WAY, i64::MAX),
+            (ONE_WAY, i64::MIN),
+            (TWO_WAY, 0x80_0000_0000_0000),
+            (TWO_WAY, -0x80_0000_0000_0001),
+            (TWO_WAY, i64::MAX),
+            (TWO_WAY, i64::MIN),
+        ],
+        [
+            (ONE_WAY, 0),
+            (ONE_WAY, 0xff_ffff_ffff_ffff),
+            (TWO_WAY, 0x7f_ffff_ffff_ffff),
+            (TWO_WAY, -0x80_0000_0000_0000),
+        ],
+    );
 }
 
 // A sum's range goes by the entry's own two-way mask, on a channel that is off too.
