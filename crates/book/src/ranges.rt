@@ -71,10 +71,5 @@ fn holds<M: Make>(entry: &Entry) -> bool
 pub(crate) fn first_bad<M: Make>(entries: &[Entry]) -> Option<usize>
     ensures { result ≡ first_bad M.Make.sheet 0 entries.now }
 {
-    for (place, entry) in entries.iter().enumerate() {
-        if !holds::<M>(entry) {
-            return Some(place);
-        }
-    }
-    None
+    entries.iter().position(|entry| !holds::<M>(entry))
 }

@@ -1,4 +1,4 @@
-use Rattle.std.proofs.Common.{◌≡◌, ◌≤◌, length, ap, ◌∙◌, arith, rules}
+use Rattle.std.proofs.Common.{◌≤◌, length, arith, rules}
 use Rattle.book.proofs.Totals.{sound_or_spoilt}
 use Rattle.book.proofs.Walks.{bad_within}
 use Rattle.book.proofs.book.Book.bill.Goals as goal
