@@ -1,6 +1,6 @@
 //! What a book's entries are worth: their energy by the tariff of a make, exact until it is rounded down once.
 ghost use Rattle.std.specs.Prelude.{◌≡◌, ◌*◌, ◌^◌, ◌<◌, ◌≤◌, length, pos, ◌*ℤ◌, unsigned_abs};
-ghost use Rattle.book.specs.Bill.{bill_limits, energy, spoilt_entries, weighed, weight, worth};
+ghost use Rattle.book.specs.Bill.{bill_limits, energy, sound_entries, spoilt_entries, weighed, weight, worth};
 ghost use Rattle.book.specs.Billed.{bill_seen};
 ghost use Rattle.book.specs.Book.{pages, bill_of_pages};
 
@@ -106,6 +106,13 @@ fn spoilt_entries(entries: &[Entry]) -> usize
     spoilt
 }
 
+// How many are billed.
+fn sound_entries(entries: &[Entry]) -> usize
+    ensures { result ≡ sound_entries entries.now }
+{
+    entries.len() - spoilt_entries(entries)
+}
+
 // Whether a book, a channel and a shunt are within their limits.
 fn bill_limits<M: Make>(book: &Book, channel: u8, shunt: u16) -> bool
     ensures { result ≡ bill_limits M.Make.sheet (length (pages book.now).places) (pages book.now).filled channel shunt }
@@ -128,11 +135,10 @@ impl Book<'_> {
         if let Some(place) = ranges::first_bad::<M>(entries) {
             return Err(Refusal::BadEntry(place as u16));
         }
-        let spoilt = spoilt_entries(entries);
         Ok(Bill {
             energy: energy::<M>(entries, channel, shunt),
-            billed: entries.len() - spoilt,
-            spoilt,
+            billed: sound_entries(entries),
+            spoilt: spoilt_entries(entries),
         })
     }
 }
