@@ -126,6 +126,23 @@ fn nothing_to_bill(rt: HostRuntime) {
     bills::<Pac193x>(&rt, &mut [spoilt, sound, spoilt], 1, 100, bill(58, 1, 2));
 }
 
+// The example of docs/BOOK.md.
+#[test]
+fn the_worked_example(rt: HostRuntime) {
+    let mut entries = [
+        with_sum(ONE_WAY, 50_000_000),
+        Entry {
+            rate: 3,
+            ..with_sum(TWO_WAY, -1_000)
+        },
+        Entry {
+            spoilt: 1,
+            ..with_sum(ONE_WAY, 70_000_000)
+        },
+    ];
+    bills::<Pac193x>(&rt, &mut entries, 1, 100, bill(57, 2, 1));
+}
+
 // A book of as many entries as there may be, all alike, over the smallest shunt and the largest.
 fn full_of<M: Make>(rt: &impl Abort, entry: Entry, sum: i64, least: i128, most: i128) {
     let entry = Entry {
