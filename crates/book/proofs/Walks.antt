@@ -1,5 +1,6 @@
 -- A walk over sums or entries: what is left decides, one step on and at the end.
-use Rattle.std.proofs.Common.{◌≡◌, ℕ, ◌+◌, ◌<◌, ◌≤◌, Bool, true, false, cond, ◌&&◌, List, [], ◌∷◌, length, get_or, drop, ℤ, Some, None, sym, ap, ◌∙◌, arith}
+use Rattle.std.proofs.Common.{◌≡◌, ℕ, zero, suc, ◌+◌, ◌<◌, ◌≤◌, Bool, true, false, cond, ◌&&◌, List, [], ◌∷◌, length, get_or, drop, ℤ, Option, Some, None, MatchOption, refl, sym, ap, ◌∙◌, arith}
+use Rattle.std.specs.List.{AllWithin, HoldsAt}
 use Rattle.std.proofs.lemmas.List.{at_drop_all, at_drop_more}
 use Rattle.std.proofs.lemmas.Bool.{and_left, cond-false, cond-true, eq-eqb}
 use Rattle.chip.specs.declared.entry.Entry.{Entry}
@@ -18,15 +19,26 @@ module _ (m : Datasheet) (two_way : ℕ) (zs : List ℤ) (i : ℕ) (d z : ℤ) (
 pub sums_passed : (m : Datasheet) (two_way : ℕ) (zs : List ℤ) (i : ℕ) → length zs ≤ i → i ≡ 4 → true ≡ sums_hold m two_way i (drop i zs)
 sums_passed m two_way zs i all four = sym (at_drop_all (sums_hold m two_way i) zs i all ∙ eq-eqb i 4 four)
 
-module _ (m : Datasheet) (es : List Entry) (i : ℕ) (d : Entry) (here : i < length es) where
-  pub entry_refused : false ≡ holds m (get_or es i d) → Some i ≡ first_bad m i (drop i es)
-  entry_refused e = sym (at_drop_more (first_bad m i) es i d here ∙ cond-false _ _ _ (sym e))
+module _ (m : Datasheet) where
+  all_hold : (es : List Entry) (n : ℕ) → AllWithin (λ e. true ≡ holds m e) es 0 (length es) → first_bad m n es ≡ None
+  all_hold [] n all = refl
+  all_hold (e ∷ es) n all =
+      cond-true _ _ _ (sym (all 0 e (omega arith) (omega arith))) ∙ all_hold es (n + 1) (λ k d l h. all (suc k) d (omega arith) (omega arith))
 
-  pub entry_passed : true ≡ holds m (get_or es i d) → first_bad m (i + 1) (drop (i + 1) es) ≡ first_bad m i (drop i es)
-  entry_passed e = sym (at_drop_more (first_bad m i) es i d here ∙ cond-true _ _ _ (sym e))
+  one_fails : (es : List Entry) (n i : ℕ) → i < length es → HoldsAt (λ e. false ≡ holds m e) es i → AllWithin (λ e. true ≡ holds m e) es 0 i
+      → first_bad m n es ≡ Some (n + i)
+  one_fails [] n i l fails all = absurd (omega arith)
+  one_fails (e ∷ es) n zero l fails all = cond-false _ _ _ (sym (fails e)) ∙ ap Some (omega arith)
+  one_fails (e ∷ es) n (suc i) l fails all =
+      cond-true _ _ _ (sym (all 0 e (omega arith) (omega arith)))
+      ∙ one_fails es (n + 1) i (omega arith) fails (λ k d l h. all (suc k) d (omega arith) (omega arith))
+      ∙ ap Some (omega arith)
 
-pub entries_passed : (m : Datasheet) (es : List Entry) (i : ℕ) → length es ≤ i → None ≡ first_bad m i (drop i es)
-entries_passed m es i all = sym (at_drop_all (first_bad m i) es i all)
+  -- what a search finds is the first place that does not hold
+  pub first_found : (es : List Entry) (r : Option ℕ) → MatchOption r (AllWithin (λ e. true ≡ holds m e) es 0 (length es))
+      (λ i. (i < length es) × HoldsAt (λ e. false ≡ holds m e) es i × AllWithin (λ e. true ≡ holds m e) es 0 i) → r ≡ first_bad m 0 es
+  first_found es None all = sym (all_hold es 0 all)
+  first_found es (Some i) (l, fails, all) = sym (one_fails es 0 i l fails all ∙ ap Some (omega arith))
 
 -- a place that is refused is one of the entries'
 pub bad_within : (m : Datasheet) (es : List Entry) (n k : ℕ) → Some k ≡ first_bad m n es → k < n + length es

@@ -29,10 +29,12 @@ abbrev pub weighed : ℕ → List Entry → ℤ
 weighed i [] = pos 0
 weighed i (e ∷ es) = worth i e +ℤ weighed i es
 
+-- how many entries are billed: those that are not spoilt
 abbrev pub sound_entries : List Entry → ℕ
 sound_entries [] = 0
 sound_entries (e ∷ es) = cond (e.spoilt == 0) 1 0 + sound_entries es
 
+-- how many entries are spoilt
 abbrev pub spoilt_entries : List Entry → ℕ
 spoilt_entries [] = 0
 spoilt_entries (e ∷ es) = cond (e.spoilt == 0) 0 1 + spoilt_entries es
@@ -46,6 +48,7 @@ abbrev pub sums_hold : Datasheet → (two_way i : ℕ) → List ℤ → Bool
 sums_hold m two_way i [] = i == 4
 sums_hold m two_way i (z ∷ zs) = sum_holds m two_way i z && sums_hold m two_way (i + 1) zs
 
+-- the settings that an entry was made under
 abbrev pub wanted_of : Entry → Wanted
 wanted_of e = record { rate = e.rate; off = e.off; two_way = e.two_way }
 
@@ -62,17 +65,22 @@ first_bad m n (e ∷ es) = cond (holds m e) (first_bad m (n + 1) es) (Some n)
 abbrev pub book_within : (places filled : ℕ) → Bool
 book_within places filled = nat_le 1 places && nat_le places 4096 && nat_le filled places
 
+-- and a bill has a channel of the make, counted from 1, and a shunt of 1 to 1,000 tenths of a milliohm
 abbrev pub bill_limits : Datasheet → (places filled channel shunt : ℕ) → Bool
 bill_limits m places filled ch u = book_within places filled && nat_le 1 ch && nat_le ch m.channels && nat_le 1 u && nat_le u 1000
 
+-- what a bill answers
 pub data Bill : Type 0 where
   -- the floor of the energy in millijoules, the entries billed, the entries spoilt
   bill_of : (energy : ℤ) (billed spoilt : ℕ) → Bill
+  -- or why there is none
   no_bill : Refusal → Bill
 
+-- the energy on a channel over a shunt, exact until it is rounded down once
 abbrev pub energy : Datasheet → (channel shunt : ℕ) → List Entry → ℤ
 energy m ch u es = int_div_euclid (pos m.tariff.factor *ℤ weighed (ch - 1) es) (pos (u * 2 ^ m.tariff.power))
 
+-- limits come first, then the first place that does not hold
 abbrev pub bill : Datasheet → (places : ℕ) → List Entry → (channel shunt : ℕ) → Bill
 bill m places es ch u =
     cond (bill_limits m places (length es) ch u)

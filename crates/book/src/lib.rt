@@ -1,4 +1,4 @@
-// A book of entries over lent places, and its bill.
+//! A book of entries over lent places, and its bill.
 #![tactic(auto)]
 
 pub mod bill;

@@ -1,4 +1,4 @@
-// What the registers of a make can hold, and so what an entry can say.
+//! What the registers of a make can hold, and so what an entry can say.
 ghost use Rattle.std.specs.Prelude.{◌≡◌, ◌^◌, ◌<◌, ◌≤◌, length, pos};
 ghost use Rattle.chip.specs.Registers.{in_range};
 ghost use Rattle.book.specs.Bill.{first_bad, holds, sum_holds, sums_hold};
@@ -13,7 +13,7 @@ fn size(bits: u32) -> i128
     requires { bits ≤ 64 }
     ensures { result ≡ pos (2 ^ bits) }
 {
-    (1u128 << bits) as i128
+    1 << bits
 }
 
 // Whether a register of so many bits holds a value, one-way or in two's complement.
@@ -23,9 +23,9 @@ fn in_range(bits: u32, two_way: bool, value: i128) -> bool
 {
     if two_way {
         let half = size(bits - 1);
-        -half <= value && value < half
+        (-half..half).contains(&value)
     } else {
-        0 <= value && value < size(bits)
+        (0..size(bits)).contains(&value)
     }
 }
 
@@ -37,10 +37,11 @@ fn sum_holds<M: Make>(two_way: u8, channel: usize, sum: i64) -> bool
     in_range(
         constants.sum_bits,
         register::in_mask(two_way, channel),
-        sum as i128,
-    ) && (channel < constants.channels as usize || sum == 0)
+        i128::from(sum),
+    ) && (channel < usize::from(constants.channels) || sum == 0)
 }
 
+// Whether all four channels can have their sums.
 fn sums_hold<M: Make>(two_way: u8, sums: &[i64]) -> bool
     requires { length sums.now ≡ 4 }
     ensures { result ≡ sums_hold M.Make.sheet two_way 0 sums.now }
@@ -62,7 +63,7 @@ fn holds<M: Make>(entry: &Entry) -> bool
     };
     M::offers(wanted)
         && entry.spoilt <= 1
-        && (entry.count as u64) < 1u64 << M::constants().count_bits
+        && u64::from(entry.count) < 1 << M::constants().count_bits
         && sums_hold::<M>(entry.two_way, &entry.sums)
 }
 
@@ -70,10 +71,5 @@ fn holds<M: Make>(entry: &Entry) -> bool
 pub(crate) fn first_bad<M: Make>(entries: &[Entry]) -> Option<usize>
     ensures { result ≡ first_bad M.Make.sheet 0 entries.now }
 {
-    for (place, entry) in entries.iter().enumerate() {
-        if !holds::<M>(entry) {
-            return Some(place);
-        }
-    }
-    None
+    entries.iter().position(|entry| !holds::<M>(entry))
 }

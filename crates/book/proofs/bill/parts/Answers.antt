@@ -3,15 +3,10 @@ use Rattle.std.proofs.lemmas.Int.{ints}
 use Rattle.book.proofs.Totals.{parts_few, parts_some}
 use Rattle.book.proofs.bill.parts.Goals as goal
 
-pub overflow_cast-result-3 : goal.overflow_cast-result-3
-overflow_cast-result-3 c =
-    let few = parts_few c.args.shunt c.args.power (omega arith) (omega arith) in
-    record { sfits = omega arith }
-
 pub returns : goal.returns
 returns c =
     let n = c.args.shunt * 2 ^ c.args.power in
     let few = parts_few c.args.shunt c.args.power (omega arith) (omega arith) in
     let some = parts_some c.args.shunt c.args.power (omega arith) in
     let whole : n % 2 ^ 128 ≡ n = mod-eq_of_lt (omega arith) in
-    record { value = omega (arith, ints); some = omega (arith, ints) }
+    rw c.from.ensures (record { value = omega (arith, ints); some = omega (arith, ints) })

@@ -1,4 +1,4 @@
-use Rattle.std.proofs.Common.{◌≡◌, ◌^◌, ◌≤◌, pos, ◌*ℤ◌, nat_abs, sym, ap, ◌∙◌, subst, ap₂, arith, SFits, to_z, of_z}
+use Rattle.std.proofs.Common.{◌≡◌, ◌^◌, ◌≤◌, pos, ◌*ℤ◌, nat_abs, ap₂, subst, sym, SFits, arith, to_z, of_z}
 use lib.IntN.{*ℤ_comm}
 use mir.Syntax.{w128}
 use Rattle.std.proofs.lemmas.Int.{ints}
@@ -9,7 +9,7 @@ pub overflow_mul-result : goal.overflow_mul-result
 overflow_mul-result c =
     let n = c.args.factor in
     let z = c.args.total in
-    let factor : to_z w128 n ≡ pos n = omega (arith, ints) in
+    let factor : to_z w128 (of_z w128 c.from.result) ≡ pos n = omega (arith, ints, c.from.ensures) in
     let total : to_z w128 (of_z w128 z) ≡ z = omega (arith, ints) in
     let small = scaled_at_most (2 ^ 83) (2 ^ 32) z n (omega arith) (omega arith) in
     let few : nat_abs (pos n *ℤ z) ≤ 2 ^ 115 = rw (*ℤ_comm (pos n) z) small in
@@ -19,7 +19,7 @@ pub returns : goal.returns
 returns c =
     let n = c.args.factor in
     let z = c.args.total in
-    let factor : to_z w128 n ≡ pos n = omega (arith, ints) in
+    let factor : to_z w128 (of_z w128 c.from.result) ≡ pos n = omega (arith, ints, c.from.ensures) in
     let total : to_z w128 (of_z w128 z) ≡ z = omega (arith, ints) in
     let small = scaled_at_most (2 ^ 83) (2 ^ 32) z n (omega arith) (omega arith) in
     let few : nat_abs (pos n *ℤ z) ≤ 2 ^ 115 = rw (*ℤ_comm (pos n) z) small in

@@ -1,16 +1,13 @@
-use Rattle.std.proofs.Common.{◌∙◌}
-use Rattle.book.proofs.Walks.{entries_passed, entry_passed, entry_refused}
+use Rattle.std.proofs.Common.{◌≡◌, true, false, rules}
+use Rattle.std.proofs.lemmas.Iterator.{IsFirst-from_position, YieldsList-from_slice}
+use Rattle.book.specs.Bill.{holds}
+use Rattle.book.proofs.Walks.{first_found}
 use Rattle.book.proofs.ranges.first_bad.Goals as goal
 
-pub returns-then-not-holds : goal.returns-then-not-holds
-returns-then-not-holds g c =
-    entry_refused g.M.Make.sheet c.args.entries.now c.loop-place.place _ c.loop-place-test.true c.if-not-holds.ensures
-    ∙ c.loop-place.invariant
-
-pub loop-place-preserved : goal.loop-place-preserved
-loop-place-preserved g c =
-    entry_passed g.M.Make.sheet c.args.entries.now c.loop-place.place _ c.loop-place-test.true c.if-not-holds.ensures
-    ∙ c.loop-place.invariant
-
 pub returns : goal.returns
-returns g c = entries_passed g.M.Make.sheet c.args.entries.now c.loop-place.place c.loop-place-test.false ∙ c.loop-place.invariant
+returns g c =
+    let m = g.M.Make.sheet in
+    let es = c.args.entries.now in
+    let found = IsFirst-from_position _ _ c.position.result (λ e. false ≡ holds m e) (λ e. true ≡ holds m e) c.position.ensures.ran
+    (YieldsList-from_slice es cc) (λ x q k. search rules) (λ x q k. search rules) in
+    first_found m es c.position.result found

@@ -1,0 +1,203 @@
+//! What books are worth.
+use crate::cases::{ONE_WAY, TWO_WAY, bill, bills, with_sum};
+use book::book::{Book, MOST_PLACES};
+use chip::chip::Chip;
+use chip::entry::Entry;
+use chip::make::Make;
+use chip::state::Codes;
+use makes::pac193x::Pac193x;
+use makes::pac194x::Pac194x;
+use std::process::Abort;
+
+// One cycle of v 40000, s 20000 on channel 1, latched, read, booked and billed.
+#[test]
+fn a_cycle_billed(rt: HostRuntime) {
+    let still = Codes { bus: 0, sense: 0 };
+    let busy = Codes {
+        bus: 40000,
+        sense: 20000,
+    };
+    let mut chip: Chip<Pac193x> = Chip::new();
+    chip.cycle([busy, still, still, still]);
+    assert_eq!(rt; chip.send(0x00), Ok(()));
+    let mut replies = [0; 30];
+    assert_eq!(rt; chip.read(0x02, &mut replies[..27]), Ok(()));
+    assert_eq!(rt; chip.read(0x24, &mut replies[27..]), Ok(()));
+    let mut places = [ONE_WAY; 2];
+    let mut book = Book::new(&mut places, 0);
+    assert_eq!(rt; book.put(Pac193x::entry_in(&replies, 1)), Ok(()));
+    assert_eq!(rt; book.bill::<Pac193x>(1, 100), bill(58, 1, 0));
+    assert_eq!(rt; book.bill::<Pac193x>(2, 100), bill(0, 1, 0));
+    assert_eq!(rt; places[0].sums, [50_000_000, 0, 0, 0]);
+}
+
+// Each weight, one-way and two-way, over 0.7 milliohm.
+fn weights<M: Make>(rt: &impl Abort, energies: [(u8, i128, i128); 4]) {
+    for (rate, one_way, two_way) in energies {
+        let mut entry = [Entry {
+            rate,
+            ..with_sum(ONE_WAY, 1_000_003)
+        }];
+        bills::<M>(rt, &mut entry, 1, 7, bill(one_way, 1, 0));
+        let mut entry = [Entry {
+            rate,
+            ..with_sum(TWO_WAY, -1_000_003)
+        }];
+        bills::<M>(rt, &mut entry, 4, 7, bill(two_way, 1, 0));
+    }
+}
+
+#[test]
+fn weights_of_both_makes(rt: HostRuntime) {
+    weights::<Pac193x>(
+        &rt,
+        [
+            (0, 16, -34),
+            (1, 66, -134),
+            (2, 266, -533),
+            (3, 2128, -4258),
+        ],
+    );
+    weights::<Pac194x>(&rt, [(0, 1, -3), (1, 4, -10), (2, 18, -38), (3, 149, -300)]);
+}
+
+// The masks and sums of each channel count for that channel alone, an off channel's too.
+#[test]
+fn each_channel(rt: HostRuntime) {
+    let mut entries = [
+        Entry {
+            off: 8,
+            sums: [1_000_000_000, 2_000_000_000, 3, 4],
+            ..ONE_WAY
+        },
+        Entry {
+            rate: 1,
+            two_way: 8,
+            sums: [-1_000_000_000, 500_000_000, 7, 0],
+            ..ONE_WAY
+        },
+        Entry {
+            rate: 2,
+            two_way: 4,
+            sums: [123_456_789, -987_654_321, 0, 1],
+            ..ONE_WAY
+        },
+        Entry {
+            rate: 3,
+            two_way: 1,
+            sums: [5, 6, 7, -8],
+            ..ONE_WAY
+        },
+    ];
+    for (channel, on_193x, on_194x) in [
+        (1, -58_496, -4_113),
+        (2, -321_364, -22_596),
+        (3, 0, 0),
+        (4, -1, -1),
+    ] {
+        bills::<Pac193x>(&rt, &mut entries, channel, 10, bill(on_193x, 4, 0));
+        bills::<Pac194x>(&rt, &mut entries, channel, 10, bill(on_194x, 4, 0));
+    }
+}
+
+// One step of less than a millijoule below zero, then the same thrice, and two that make one millijoule together only.
+#[test]
+fn rounded_down_once(rt: HostRuntime) {
+    let below = with_sum(TWO_WAY, -1);
+    let part = with_sum(ONE_WAY, 5154);
+    bills::<Pac193x>(&rt, &mut [below], 1, 1, bill(-1, 1, 0));
+    bills::<Pac193x>(&rt, &mut [below; 3], 1, 1, bill(-1, 3, 0));
+    bills::<Pac193x>(&rt, &mut [part], 1, 1, bill(0, 1, 0));
+    bills::<Pac193x>(&rt, &mut [part; 2], 1, 1, bill(1, 2, 0));
+}
+
+// Nothing booked, and nothing sound.
+#[test]
+fn nothing_to_bill(rt: HostRuntime) {
+    let spoilt = Entry {
+        spoilt: 1,
+        ..with_sum(ONE_WAY, 50_000_000)
+    };
+    let mut places = [spoilt; 2];
+    let book = Book::new(&mut places, 0);
+    assert_eq!(rt; book.bill::<Pac193x>(1, 100), bill(0, 0, 0));
+    bills::<Pac193x>(&rt, &mut [spoilt; 3], 1, 100, bill(0, 0, 3));
+    let sound = with_sum(ONE_WAY, 50_000_000);
+    bills::<Pac193x>(&rt, &mut [spoilt, sound, spoilt], 1, 100, bill(58, 1, 2));
+}
+
+// The example of docs/BOOK.md.
+#[test]
+fn the_worked_example(rt: HostRuntime) {
+    let mut entries = [
+        with_sum(ONE_WAY, 50_000_000),
+        Entry {
+            rate: 3,
+            ..with_sum(TWO_WAY, -1_000)
+        },
+        Entry {
+            spoilt: 1,
+            ..with_sum(ONE_WAY, 70_000_000)
+        },
+    ];
+    bills::<Pac193x>(&rt, &mut entries, 1, 100, bill(57, 2, 1));
+}
+
+// A book of as many entries as there may be, all alike, over the smallest shunt and the largest.
+fn full_of<M: Make>(rt: &impl Abort, entry: Entry, sum: i64, least: i128, most: i128) {
+    let entry = Entry {
+        rate: 3,
+        ..with_sum(entry, sum)
+    };
+    let mut places = [entry; MOST_PLACES];
+    bills::<M>(rt, &mut places, 1, 1, bill(least, MOST_PLACES, 0));
+    bills::<M>(rt, &mut places, 4, 1000, bill(most, MOST_PLACES, 0));
+}
+
+#[test]
+fn the_largest_books(rt: HostRuntime) {
+    for (entry, sum, least, most) in [
+        (
+            ONE_WAY,
+            0xffff_ffff_ffff,
+            17_179_869_183_999_938,
+            17_179_869_183_999,
+        ),
+        (
+            TWO_WAY,
+            0x7fff_ffff_ffff,
+            17_179_869_183_999_877,
+            17_179_869_183_999,
+        ),
+        (
+            TWO_WAY,
+            -0x8000_0000_0000,
+            -17_179_869_184_000_000,
+            -17_179_869_184_000,
+        ),
+    ] {
+        full_of::<Pac193x>(&rt, entry, sum, least, most);
+    }
+    for (entry, sum, least, most) in [
+        (
+            ONE_WAY,
+            0xff_ffff_ffff_ffff,
+            309_237_645_311_999_995,
+            309_237_645_311_999,
+        ),
+        (
+            TWO_WAY,
+            0x7f_ffff_ffff_ffff,
+            309_237_645_311_999_991,
+            309_237_645_311_999,
+        ),
+        (
+            TWO_WAY,
+            -0x80_0000_0000_0000,
+            -309_237_645_312_000_000,
+            -309_237_645_312_000,
+        ),
+    ] {
+        full_of::<Pac194x>(&rt, entry, sum, least, most);
+    }
+}

@@ -1,0 +1,35 @@
+//! How a book fills.
+use crate::cases::ONE_WAY;
+use book::book::Book;
+use chip::entry::Entry;
+use chip::refusal::Refusal;
+
+fn drawn(draw: u32) -> Entry {
+    Entry { draw, ..ONE_WAY }
+}
+
+// Entries stand in the order in which they were put; a full book refuses, and stays as it is.
+#[test]
+fn fills_and_is_full(rt: HostRuntime) {
+    let mut places = [drawn(9); 3];
+    let mut book = Book::new(&mut places, 1);
+    assert_eq!(rt; book.is_full(), false);
+    assert_eq!(rt; book.put(drawn(5)), Ok(()));
+    assert_eq!(rt; book.put(drawn(6)), Ok(()));
+    assert_eq!(rt; book.is_full(), true);
+    assert_eq!(rt; book.put(drawn(7)), Err(Refusal::Full));
+    assert_eq!(rt; book.put(drawn(8)), Err(Refusal::Full));
+    assert_eq!(rt; book.within_limits(), true);
+    assert_eq!(rt; places.map(|entry| entry.draw), [9, 5, 6]);
+}
+
+// More filled than there are places: full, and outside its limits.
+#[test]
+fn overfilled(rt: HostRuntime) {
+    let mut places = [drawn(9); 2];
+    let mut book = Book::new(&mut places, 3);
+    assert_eq!(rt; book.is_full(), true);
+    assert_eq!(rt; book.put(drawn(5)), Err(Refusal::Full));
+    assert_eq!(rt; book.within_limits(), false);
+    assert_eq!(rt; places.map(|entry| entry.draw), [9, 9]);
+}
