@@ -1,5 +1,5 @@
 -- The parts of a look.
-use Rattle.std.proofs.Common.{◌≡◌, ℕ, ◌-◌, ◌≤◌, true, cond, ◌&&◌, eqb, leb, List, [], Ok, Err, Result, sym, refl, ap, subst, arith}
+use Rattle.std.proofs.Common.{◌≡◌, ℕ, ◌-◌, ◌%◌, ◌<◌, ◌≤◌, true, cond, ◌&&◌, eqb, leb, List, [], Ok, Err, Result, sym, refl, ap, subst, arith}
 use Rattle.std.proofs.lemmas.Bool.{and_parts, eq-eqb, leb-true, ne_eqb}
 use Rattle.account.proofs.Reading.{readable_sized}
 use Rattle.account.proofs.Wires.{answered_on, ends_followed}
@@ -45,6 +45,10 @@ module _ {W : Type 0} (goes : Goes W) (m : Datasheet) (law : Lawful m) (ch q : �
 
   polarity_sized : sized (read m.polarity_at.0 m.polarity_at.1) ≡ true
   polarity_sized = readable_sized m m.polarity_at law.polarity_readable
+
+  -- its address is a byte
+  pub code_address : (a : ℕ) → a ≡ m.code_at ch q % 256 → a ≡ m.code_at ch q
+  code_address a is = let small = (law.code_readable ch q one_on there known).2 in omega arith
 
   abbrev shows_sense : Meter → (code polarity : List ℕ) → Way
   shows_sense t bs gs = ends (t, looked (millivolts (in_mask (m.two_way_in (number gs)) (ch - 1)) (number bs)))

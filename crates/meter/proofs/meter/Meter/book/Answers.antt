@@ -16,9 +16,9 @@ returns-in-Ok g c =
     let written = put_so c.in-Ok.entry b _ _ (lt-leb (length b.places) b.filled found.room) c.put.ensures.written in
     record {
       made = subst (λ x. MadeBookCall m g.W.Wire.chip g.W.Wire.goes (book (slip_of c.args.slip) (length s)) (meter_of c.args.self.now) c.args.self.now.wire b s
-              (at (meter_of c.entry_for.new.self) ready) c.entry_for.new.self.wire x c.entry_for.new.scratch (entered c.in-Ok.entry)) (sym written)
+          (at (meter_of c.entry_for.new.self) ready) c.entry_for.new.self.wire x c.entry_for.new.scratch (entered c.in-Ok.entry)) (sym written)
           (subst (λ t'. MadeBookCall m g.W.Wire.chip g.W.Wire.goes (book (slip_of c.args.slip) (length s)) (meter_of c.args.self.now) c.args.self.now.wire b s
-              (at t' ready) c.entry_for.new.self.wire (put c.in-Ok.entry b) c.entry_for.new.scratch (entered c.in-Ok.entry)) (sym c.in-Ok.ensures.meter) found.made);
+          (at t' ready) c.entry_for.new.self.wire (put c.in-Ok.entry b) c.entry_for.new.scratch (entered c.in-Ok.entry)) (sym c.in-Ok.ensures.meter) found.made);
       back = tt;
       same = c.put.ensures.same;
     }
@@ -30,9 +30,9 @@ returns-in-Err g c =
     let s = c.args.scratch.now in
     record {
       made = subst (λ e. MadeBookCall m g.W.Wire.chip g.W.Wire.goes (book (slip_of c.args.slip) (length s)) (meter_of c.args.self.now) c.args.self.now.wire b s
-              (meter_of c.entry_for.new.self) c.entry_for.new.self.wire b c.entry_for.new.scratch (refused e)) (sym c.refused.ensures.1)
+          (meter_of c.entry_for.new.self) c.entry_for.new.self.wire b c.entry_for.new.scratch (refused e)) (sym c.refused.ensures.1)
           (subst (λ t'. MadeBookCall m g.W.Wire.chip g.W.Wire.goes (book (slip_of c.args.slip) (length s)) (meter_of c.args.self.now) c.args.self.now.wire b s
-              t' c.entry_for.new.self.wire b c.entry_for.new.scratch (refused c.in-Err.refusal)) (sym c.in-Err.ensures.meter) c.in-Err.ensures.found);
+          t' c.entry_for.new.self.wire b c.entry_for.new.scratch (refused c.in-Err.refusal)) (sym c.in-Err.ensures.meter) c.in-Err.ensures.found);
       back = c.refused.ensures.0;
       same = refl;
     }
