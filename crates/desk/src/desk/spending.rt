@@ -1,0 +1,46 @@
+//! Spending the slip in hand.
+ghost use Rattle.std.specs.Prelude.{◌≡◌};
+ghost use Rattle.desk.specs.Promises.{BookMade, WriteOffMade};
+ghost use Rattle.desk.specs.Standing.{hand_of, standing};
+
+use super::Desk;
+use chip::entry::Entry;
+use chip::refusal::Refusal;
+use meter::slip::Unspent;
+use wire::wire::Wire;
+
+impl<W: Wire> Desk<'_, W> {
+    /// Books the slip in hand. Refused, it stays there.
+    pub fn book(&mut self) -> Result<Entry, Refusal>
+        ensures made { BookMade W.Make.Make.sheet W.Wire.chip W.Wire.goes (hand_of self.old.slip) (standing self.old) result (standing self.new) }
+        ensures same { self.new.book.places.ghost_name ≡ self.old.book.places.ghost_name }
+    {
+        let Some(slip) = self.slip.take() else {
+            return Err(Refusal::NoSlip);
+        };
+        match self.meter.book(slip, &mut self.book, &mut self.scratch) {
+            Ok(entry) => Ok(entry),
+            Err(Unspent { slip, refusal }) => {
+                self.slip = Some(slip);
+                Err(refusal)
+            }
+        }
+    }
+
+    /// Writes the slip in hand off. Refused, it stays there.
+    pub fn write_off(&mut self) -> Result<(), Refusal>
+        ensures made { WriteOffMade W.Make.Make.sheet W.Wire.chip W.Wire.goes (hand_of self.old.slip) (standing self.old) result (standing self.new) }
+        ensures same { self.new.book.places.ghost_name ≡ self.old.book.places.ghost_name }
+    {
+        let Some(slip) = self.slip.take() else {
+            return Err(Refusal::NoSlip);
+        };
+        match self.meter.write_off(slip) {
+            Ok(()) => Ok(()),
+            Err(Unspent { slip, refusal }) => {
+                self.slip = Some(slip);
+                Err(refusal)
+            }
+        }
+    }
+}
