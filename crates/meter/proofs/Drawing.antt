@@ -1,5 +1,5 @@
 -- The parts of a draw.
-use Rattle.std.proofs.Common.{◌≡◌, ℕ, ◌+◌, Bool, true, false, cond, not, eqb, List, [], Ok, Err, sym, refl, ap, ◌∙◌, subst, arith}
+use Rattle.std.proofs.Common.{◌≡◌, ℕ, ◌+◌, Bool, true, false, cond, not, List, [], Ok, Err, sym, refl, ap, ◌∙◌, subst, arith}
 use mathlib.Core.Bool.{beq}
 use Rattle.std.proofs.lemmas.Bool.{eq-eqb, ne_eqb}
 use Rattle.account.proofs.Wires.{answered_on, ends_followed}
@@ -18,7 +18,7 @@ use Rattle.meter.specs.declared.condition.Condition.{Condition}
 use Rattle.meter.specs.declared.condition.Condition.TheVariants.{InDoubt, Ready, SlipOut, Unfinished}
 use Rattle.meter.specs.declared.machine.Call.TheVariants.{Draw}
 use Rattle.meter.specs.declared.machine.Move.{Move}
-use Rattle.meter.specs.declared.machine.Move.TheVariants.{AskMark, Refresh}
+use Rattle.meter.specs.declared.machine.Move.TheVariants.{AskMark}
 use Rattle.wire.specs.Wire.{Goes, Heard, Transacted, denied, heard}
 
 -- what a draw does, by what the condition settles

@@ -1,5 +1,5 @@
 -- A transaction of a call that was refused ends the call as its dialogue says.
-use Rattle.std.proofs.Common.{◌≡◌, ℕ, Bool, true, List, refl, subst, arith}
+use Rattle.std.proofs.Common.{◌≡◌, ℕ, Bool, true, List, subst, arith}
 use Rattle.account.proofs.Wires.{asks_followed, ends_followed, went_so}
 use Rattle.account.specs.Calls.{Followed}
 use Rattle.account.specs.Dialogue.{Condition, Meter, Way, asks, at, in_doubt, or_fails, refused, refuses, unfinished}

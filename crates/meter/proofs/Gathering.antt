@@ -2,7 +2,6 @@
 use Rattle.std.proofs.Common.{◌≡◌, ℕ, zero, suc, ◌+◌, ◌≤◌, Bool, true, List, [], ◌∷◌, ◌++◌, length, take, drop, Some, None, sym, refl, ap, ◌∙◌, subst, append_assoc, arith}
 use Rattle.std.proofs.lemmas.List.{append-nil}
 use Rattle.account.proofs.Wires.{heard_answered, went_so}
-use Rattle.account.specs.Calls.{Followed}
 use Rattle.account.specs.Dialogue.{Answer, Condition, Meter, Way, asks, at, ended, gathers, or_fails, refused, stepped}
 use Rattle.account.specs.History.{scratched}
 use Rattle.account.specs.Steps.{at_rest, onward}

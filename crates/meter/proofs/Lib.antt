@@ -6,3 +6,5 @@ pub mod Writing
 pub mod Gathering
 pub mod Drawing
 pub mod Spending
+pub mod Looking
+pub mod Billing

@@ -1,5 +1,5 @@
 -- The first bytes of a slice, lent and given back.
-use Rattle.std.proofs.Common.{◌≡◌, ℕ, ◌-◌, ◌≤◌, List, ◌++◌, length, take, drop, ap, ◌∙◌, ap₂, arith}
+use Rattle.std.proofs.Common.{◌≡◌, ℕ, ◌-◌, ◌≤◌, List, ◌++◌, length, drop, ap, ◌∙◌, ap₂, arith}
 use borrow.Rule.Slice.PartMut.{mid_len, mid_of, Post-is, post_of, put_same}
 use Rattle.std.proofs.lemmas.List.{take_at}
 

@@ -4,7 +4,7 @@ use Rattle.std.proofs.lemmas.Bool.{and_from, and_parts, both_ways, eq-eqb, le-le
 use Rattle.account.proofs.Books.{books_keep}
 use Rattle.account.proofs.Wires.{ends_followed, made_call}
 use Rattle.account.specs.Book.{book_after}
-use Rattle.account.specs.Calls.{Followed, MadeBookCall, MadeCall}
+use Rattle.account.specs.Calls.{Followed, MadeBookCall}
 use Rattle.account.specs.Dialogue.{Answer, Meter, Slip, Way, at, book, book_limits, books, ended, ends, entered, enters, fits_slip, given_up, ready, refused, refuses, writes_off, wrote_off}
 use Rattle.account.specs.History.{entries_after}
 use Rattle.account.specs.Steps.{at_rest}

@@ -1,5 +1,5 @@
 -- What a look answers, in the arithmetic of 64-bit floats.
-use Rattle.std.specs.Prelude.{ℕ, Bool, cond, ℤ, pos, Float}
+use Rattle.std.specs.Prelude.{ℕ, cond, ℤ, pos, Float}
 use Rattle.std.specs.Float.{binary64}
 use Rattle.std.specs.Float.Ieee.{mul, div, of_int}
 use Rattle.chip.specs.Datasheet.{Datasheet}

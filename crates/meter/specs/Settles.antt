@@ -1,5 +1,5 @@
 -- Every answer is settled by the condition and the call together.
-use Rattle.std.specs.Prelude.{ℕ, cond, Ok, Err, Result, ◌==◌}
+use Rattle.std.specs.Prelude.{cond, Ok, Err, Result, ◌==◌}
 use Rattle.chip.specs.declared.refusal.Refusal.{Refusal}
 use Rattle.chip.specs.declared.refusal.Refusal.TheVariants.{Limits, NotAcknowledged, Broken, NotReady, NumbersSpent, WrongSlip, Full, BadEntry, Unreadable, NoSlip}
 use Rattle.chip.specs.declared.refusal.Refusal.TheVariants as refusal

@@ -1,6 +1,6 @@
 // Looking at a channel's latest code.
 ghost use Rattle.std.specs.Prelude.{◌≡◌, ◌≤◌};
-ghost use Rattle.account.specs.Dialogue.{looks_at, ready, sees};
+ghost use Rattle.account.specs.Dialogue.{look_limits, looks_at, ready, sees};
 ghost use Rattle.meter.specs.Parts.{SeenSo};
 ghost use Rattle.meter.specs.Promises.{LookMade};
 ghost use Rattle.meter.specs.Views.{meter_of};
@@ -14,6 +14,13 @@ use chip::make::Make;
 use chip::refusal::Refusal;
 use chip::register;
 use wire::wire::Wire;
+
+// Whether there is such a channel and such a quantity.
+fn within_limits<M: Make>(channel: u8, quantity: u8) -> bool
+    ensures { result ≡ look_limits M.Make.sheet channel quantity }
+{
+    1 <= channel && channel <= M::constants().channels && quantity <= 1
+}
 
 // The code in the image, and for a sense code the image's polarity.
 fn see<W: Wire>(wire: &mut W, channel: u8, quantity: u8) -> Result<Reading, Refusal>
@@ -49,7 +56,7 @@ impl<W: Wire> Meter<W> {
     pub fn look(&mut self, channel: u8, quantity: u8) -> Result<Reading, Refusal>
         ensures { LookMade W.Make.Make.sheet W.Wire.chip W.Wire.goes channel quantity (meter_of self.old) self.old.wire (meter_of self.new) self.new.wire result }
     {
-        if channel < 1 || channel > W::Make::constants().channels || quantity > 1 {
+        if !within_limits::<W::Make>(channel, quantity) {
             return Err(Refusal::Limits);
         }
         match machine::settle(self.condition, Call::Look) {

@@ -1,4 +1,4 @@
-use Rattle.std.proofs.Common.{sym, ap, ◌∙◌, subst}
+use Rattle.std.proofs.Common.{sym, ap, subst}
 use Rattle.account.specs.Calls.{Followed}
 use Rattle.account.specs.Dialogue.{at, closes, refused}
 use Rattle.meter.proofs.Drawing.{close_failed, closed, handed_as}

@@ -1,11 +1,9 @@
-use Rattle.std.proofs.Common.{◌≡◌, List, Ok, Err, Result, sym, refl, ap, ◌∙◌, subst}
+use Rattle.std.proofs.Common.{◌≡◌, List, Ok, Err, Result, sym, refl, ap, ◌∙◌}
 use Rattle.account.proofs.Wires.{ends_followed}
-use Rattle.account.specs.Calls.{Followed}
-use Rattle.account.specs.Dialogue.{asks_mark, draw, draws, draws_at, refreshes, refused}
+use Rattle.account.specs.Dialogue.{asks_mark, draw, draws_at, refreshes}
 use Rattle.account.specs.History.{entries_after}
 use Rattle.chip.specs.declared.entry.Entry.{Entry}
 use Rattle.chip.specs.declared.refusal.Refusal.{Refusal}
-use Rattle.chip.specs.declared.refusal.Refusal.TheVariants.{NumbersSpent}
 use Rattle.meter.proofs.Alone.{made_alone}
 use Rattle.meter.proofs.Drawing.{asks_only_in_doubt, draw_refused, else_refreshes, numbers_left, numbers_spent, some_way}
 use Rattle.meter.proofs.meter.Meter.draw.Goals as goal

@@ -2,7 +2,6 @@ use Rattle.std.proofs.Common.{◌≡◌, true, false, sym, refl, ap, ◌∙◌, 
 use Rattle.account.specs.Calls.{Followed}
 use Rattle.account.specs.Dialogue.{set_up, sets_up, stored, wanting}
 use Rattle.chip.specs.Datasheet.{Wanted}
-use Rattle.chip.specs.Driver.{wanted_of}
 use Rattle.meter.proofs.Alone.{made_alone}
 use Rattle.meter.proofs.Offers.{beyond_not_offered, refused_so, stored_so, wanted_as_asked}
 use Rattle.meter.proofs.meter.Meter.set_up.Goals as goal

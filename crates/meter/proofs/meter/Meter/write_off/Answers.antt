@@ -1,4 +1,4 @@
-use Rattle.std.proofs.Common.{sym, refl, ap, subst, arith}
+use Rattle.std.proofs.Common.{sym, refl, subst, arith}
 use Rattle.account.specs.Dialogue.{refused, write_off}
 use Rattle.meter.proofs.Alone.{made_alone}
 use Rattle.meter.proofs.Spending.{off_refused, off_taken}
