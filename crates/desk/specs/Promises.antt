@@ -1,9 +1,7 @@
 -- What the calls of a desk promise: their answer, and all that the desk is after them.
-use Rattle.std.specs.Prelude.{◌≡◌, ℕ, List, [], ◌∷◌, replicate, Some, None, Ok, Err, Option, Result}
+use Rattle.std.specs.Prelude.{◌≡◌, ℕ, List, length, replicate, Some, None, Ok, Err, Option, Result}
 use Rattle.account.specs.Calls.{Added, Begun, MadeBookCall, MadeCycle}
-use Rattle.account.specs.Dialogue.{Answer, Call, Slip, book, draw, entered, given_up, handed, refused, set_up, write_off}
-use Rattle.account.specs.Dialogue as machine
-use Rattle.book.specs.Book.{Pages}
+use Rattle.account.specs.Dialogue.{Answer, Slip, book, draw, entered, given_up, handed, refused, set_up, write_off, wrote_off}
 use Rattle.chip.specs.Datasheet.{Datasheet, Wanted}
 use Rattle.chip.specs.declared.entry.Entry.{Entry}
 use Rattle.chip.specs.declared.refusal.Refusal.{Refusal}
@@ -41,6 +39,13 @@ abbrev pub hand_spent : {A : Type 0} → Slip → Result A Refusal → Option Sl
 hand_spent p (Ok x) = None
 hand_spent p (Err e) = Some p
 
+-- the chip behind a script, and how a scripted wire takes a request
+abbrev pub chip_below : {W : Type 0} → (W → State) → Scripted W → State
+chip_below chip_of s = chip_of s.below
+
+abbrev pub goes_scripted : {W : Type 0} → Goes W → Goes (Scripted W)
+goes_scripted goes u q b r w = ScriptedGoes goes (seen u) q b r (seen w)
+
 module _ {W : Type 0} where
   -- all but the meter and its wire stays
   pub record OnlyMeter (d d' : Standing W) : Type 0 where
@@ -49,48 +54,40 @@ module _ {W : Type 0} where
     pub scratch : d'.scratch ≡ d.scratch
 
   module _ (m : Datasheet) (chip_of : W → State) where
-    -- the chip behind the script
-    abbrev pub chip_below : Scripted W → State
-    chip_below s = chip_of s.below
-
     -- meter 1, with no draw number used, an empty book of these places, a scratch of zeros, and no slip in hand
     pub record DeskOpened (wire : Scripted W) (places : List Entry) (d : Standing W) : Type 0 where
-      pub meter : Begun m chip_below 1 0 wire d.meter d.wire
+      pub meter : Begun m (chip_below chip_of) 1 0 wire d.meter d.wire
       pub hand : d.hand ≡ None
       pub book : d.book ≡ record { places = places; filled = 0 }
       pub scratch : d.scratch ≡ replicate 32 0
 
     -- an outcome is added to the script, and nothing else changes
     pub record OutcomeAdded (outcome : ℕ) (d : Standing W) (r : Result Unit Refusal) (d' : Standing W) : Type 0 where
-      pub run : Added m chip_below d.meter d.wire d'.meter d'.wire
+      pub run : Added m (chip_below chip_of) d.meter d.wire d'.meter d'.wire
       pub below : d'.wire.below ≡ d.wire.below
       pub script : added_to d.wire.script outcome r d'.wire.script
       pub rest : OnlyMeter d d'
 
     module _ (passes : Passes W) where
       pub record CycleCame (ks : List Codes) (d d' : Standing W) : Type 0 where
-        pub meter : MadeCycle m chip_below (ScriptedPasses passes) ks d.meter d.wire d'.meter d'.wire
+        pub meter : MadeCycle m (chip_below chip_of) (ScriptedPasses passes) ks d.meter d.wire d'.meter d'.wire
         pub rest : OnlyMeter d d'
 
     module _ (goes : Goes W) where
-      -- how the scripted wire takes a request
-      abbrev pub goes_scripted : Goes (Scripted W)
-      goes_scripted u q b r w = ScriptedGoes goes (seen u) q b r (seen w)
-
       pub record SetUpMade (w : Wanted) (d : Standing W) (r : Result Unit Refusal) (d' : Standing W) : Type 0 where
-        pub meter : MadeAlone m chip_below goes_scripted (set_up w) d.meter d.wire d'.meter d'.wire (set_up_answer r)
+        pub meter : MadeAlone m (chip_below chip_of) (goes_scripted goes) (set_up w) d.meter d.wire d'.meter d'.wire (set_up_answer r)
         pub rest : OnlyMeter d d'
 
       -- a draw puts its slip in hand
       pub record DrawMade (d : Standing W) (r : Result ℕ Refusal) (d' : Standing W) : Type 0 where
-        pub meter : MadeAlone m chip_below goes_scripted draw d.meter d.wire d'.meter d'.wire (draw_answer d.meter.meter r)
+        pub meter : MadeAlone m (chip_below chip_of) (goes_scripted goes) draw d.meter d.wire d'.meter d'.wire (draw_answer d.meter.meter r)
         pub hand : d'.hand ≡ hand_drawn d.meter.meter d.hand r
         pub book : d'.book ≡ d.book
         pub scratch : d'.scratch ≡ d.scratch
 
       -- the slip in hand is booked, or stays there
       pub record SlipBooked (p : Slip) (d : Standing W) (r : Result Entry Refusal) (d' : Standing W) : Type 0 where
-        pub made : MadeBookCall m chip_below goes_scripted (book p 32) d.meter d.wire d.book d.scratch d'.meter d'.wire d'.book d'.scratch (book_answer r)
+        pub made : MadeBookCall m (chip_below chip_of) (goes_scripted goes) (book p (length d.scratch)) d.meter d.wire d.book d.scratch d'.meter d'.wire d'.book d'.scratch (book_answer r)
         pub hand : d'.hand ≡ hand_spent p r
 
       -- with no slip in hand a booking and a write-off are refused by 11, and all stays
@@ -99,7 +96,7 @@ module _ {W : Type 0} where
       BookMade (Some p) d r d' = SlipBooked p d r d'
 
       pub record SlipWrittenOff (p : Slip) (d : Standing W) (r : Result Unit Refusal) (d' : Standing W) : Type 0 where
-        pub meter : MadeAlone m chip_below goes_scripted (write_off p) d.meter d.wire d'.meter d'.wire (write_off_answer r)
+        pub meter : MadeAlone m (chip_below chip_of) (goes_scripted goes) (write_off p) d.meter d.wire d'.meter d'.wire (write_off_answer r)
         pub hand : d'.hand ≡ hand_spent p r
         pub book : d'.book ≡ d.book
         pub scratch : d'.scratch ≡ d.scratch
@@ -109,13 +106,10 @@ module _ {W : Type 0} where
       WriteOffMade (Some p) d r d' = SlipWrittenOff p d r d'
 
       pub record LookDone (channel quantity : ℕ) (d : Standing W) (r : Result Reading Refusal) (d' : Standing W) : Type 0 where
-        pub meter : LookMade m chip_below goes_scripted channel quantity d.meter d.wire d'.meter d'.wire r
+        pub meter : LookMade m (chip_below chip_of) (goes_scripted goes) channel quantity d.meter d.wire d'.meter d'.wire r
         pub rest : OnlyMeter d d'
 
-      -- a slip in hand is written off, which no end refuses; the wire is then as it was
-      pub record EndWrittenOff (p : Slip) (d : Standing W) (w : Scripted W) : Type 0 where
-        pub meter : MadeAlone m chip_below goes_scripted (write_off p) d.meter d.wire (machine.wrote_off d.meter) w given_up
-
+      -- at the end a slip in hand is written off, which nothing refuses
       abbrev pub Ended : (hand : Option Slip) (d : Standing W) (w : Scripted W) → Type 0
       Ended None d w = Unit {0}
-      Ended (Some p) d w = EndWrittenOff p d w
+      Ended (Some p) d w = MadeAlone m (chip_below chip_of) (goes_scripted goes) (write_off p) d.meter d.wire (wrote_off d.meter) w given_up

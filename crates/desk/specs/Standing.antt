@@ -27,3 +27,8 @@ standing d = record {
   book = pages d.book;
   scratch = d.scratch;
 }
+
+-- the draw number of a slip in hand
+abbrev pub draw_of : Option machine.Slip → Option ℕ
+draw_of None = None
+draw_of (Some p) = Some p.draw

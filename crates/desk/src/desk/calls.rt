@@ -1,6 +1,6 @@
 //! A desk's beginning, cycles and outcomes, set-ups, draws and looks, and what it shows.
-ghost use Rattle.std.specs.Prelude.{◌≡◌, None};
-ghost use Rattle.desk.specs.Promises.{CycleCame, DeskOpened, DrawMade, SetUpMade};
+ghost use Rattle.std.specs.Prelude.{◌≡◌};
+ghost use Rattle.desk.specs.Promises.{CycleCame, DeskOpened, DrawMade, LookDone, OutcomeAdded, SetUpMade};
 ghost use Rattle.desk.specs.Standing.{standing};
 
 use super::Desk;
@@ -10,6 +10,7 @@ use chip::refusal::Refusal;
 use chip::state::Codes;
 use meter::condition::Condition;
 use meter::meter::Meter;
+use meter::reading::Reading;
 use wire::scripted::Scripted;
 use wire::wire::Wire;
 
@@ -38,6 +39,14 @@ impl<'a, W: Wire> Desk<'a, W> {
         self.meter.cycle(codes);
     }
 
+    /// Adds an outcome to the wire's script: 0 to 3, and 256 in all.
+    pub fn add(&mut self, outcome: u8) -> Result<(), Refusal>
+        ensures added { OutcomeAdded W.Make.Make.sheet W.Wire.chip outcome (standing self.old) result (standing self.new) }
+        ensures same { self.new.book.places.ghost_name ≡ self.old.book.places.ghost_name }
+    {
+        self.meter.add(outcome)
+    }
+
     /// Stores the settings that the next draw is to put in force.
     pub fn set_up(&mut self, rate: u8, off: u8, two_way: u8) -> Result<(), Refusal>
         ensures made { SetUpMade W.Make.Make.sheet W.Wire.chip W.Wire.goes (record { rate = rate; off = off; two_way = two_way }) (standing self.old) result (standing self.new) }
@@ -55,6 +64,14 @@ impl<'a, W: Wire> Desk<'a, W> {
         let draw = slip.draw();
         self.slip = Some(slip);
         Ok(draw)
+    }
+
+    /// A channel's latest code, 1 on: quantity 0 is the bus voltage, 1 the sense voltage.
+    pub fn look(&mut self, channel: u8, quantity: u8) -> Result<Reading, Refusal>
+        ensures made { LookDone W.Make.Make.sheet W.Wire.chip W.Wire.goes channel quantity (standing self.old) result (standing self.new) }
+        ensures same { self.new.book.places.ghost_name ≡ self.old.book.places.ghost_name }
+    {
+        self.meter.look(channel, quantity)
     }
 }
 

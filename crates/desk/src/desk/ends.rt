@@ -1,10 +1,11 @@
 //! The end of a desk, and the wire given back.
-ghost use Rattle.std.specs.Prelude.{◌≡◌, cond, MatchResult, Err, Ok, is_some};
+ghost use Rattle.std.specs.Prelude.{◌≡◌, ◌≢◌, None, MatchResult};
 ghost use Rattle.chip.specs.declared.refusal.Refusal.TheVariants.{SlipOut};
 ghost use Rattle.desk.specs.Promises.{Ended};
-ghost use Rattle.desk.specs.Standing.{hand_of, standing};
+ghost use Rattle.desk.specs.Standing.{draw_of, hand_of, standing};
 
 use super::Desk;
+use book::book::Book;
 use chip::refusal::Refusal;
 use wire::scripted::Scripted;
 use wire::wire::Wire;
@@ -18,37 +19,60 @@ pub struct Unreleased<'a, W> {
 impl<'a, W> Desk<'a, W> {
     /// The draw number of the slip in hand.
     pub fn slip_in_hand(&self) -> Option<u32>
+        ensures { result ≡ draw_of (hand_of self.now.slip) }
     {
         self.slip.as_ref().map(|slip| slip.draw())
     }
 
-    /// Gives the wire back, if no slip is in hand.
-    pub fn release(self) -> Result<Scripted<W>, Unreleased<'a, W>>
+    /// Whether the desk can be released: not with a slip in hand.
+    pub fn may_release(&self) -> Result<(), Refusal>
+        ensures { MatchResult result (λ _. self.now.slip ≡ None) (λ e. (self.now.slip ≢ None) × (e ≡ SlipOut)) }
     {
         if self.slip.is_some() {
+            return Err(Refusal::SlipOut);
+        }
+        Ok(())
+    }
+
+    /// Gives the wire and the book back. With a slip in hand it is refused, and the desk kept as it was.
+    pub fn release(self) -> Result<(Scripted<W>, Book<'a>), Unreleased<'a, W>>
+        ensures { MatchResult result (λ r. (self.entry.slip ≡ None) × (r.0 ≡ self.entry.meter.wire) × (r.1 ≡ self.entry.book)) (λ u. (self.entry.slip ≢ None) × (u.desk ≡ self.entry) × (u.refusal ≡ SlipOut)) }
+    {
+        if let Err(refusal) = self.may_release() {
             return Err(Unreleased {
                 desk: self,
-                refusal: Refusal::SlipOut,
+                refusal,
             });
         }
-        let Desk { meter, book: _, scratch: _, slip: _ } = self;
-        Ok(meter.release())
+        let Desk {
+            meter,
+            book,
+            scratch: _,
+            slip: _,
+        } = self;
+        Ok((meter.release(), book))
     }
 }
 
-impl<W: Wire> Desk<'_, W> {
-    /// Gives the wire back. A slip in hand is written off first.
-    pub fn end(self) -> Scripted<W>
-        ensures wire { result ≡ self.entry.meter.wire }
-        ensures written_off { Ended W.Make.Make.sheet W.Wire.chip W.Wire.goes (hand_of self.entry.slip) (standing self.entry) result }
+impl<'a, W: Wire> Desk<'a, W> {
+    /// Gives the wire and the book back. A slip in hand is written off first.
+    pub fn end(self) -> (Scripted<W>, Book<'a>)
+        ensures written_off { Ended W.Make.Make.sheet W.Wire.chip W.Wire.goes (hand_of self.entry.slip) (standing self.entry) result.0 }
+        ensures wire { result.0 ≡ self.entry.meter.wire }
+        ensures book { result.1 ≡ self.entry.book }
     {
-        let Desk { mut meter, book: _, scratch: _, slip } = self;
+        let Desk {
+            mut meter,
+            book,
+            scratch: _,
+            slip,
+        } = self;
         if let Some(slip) = slip {
             match meter.write_off(slip) {
                 Ok(()) => {}
                 Err(_) => unreachable!(),
             }
         }
-        meter.release()
+        (meter.release(), book)
     }
 }

@@ -1,9 +1,13 @@
-//! Spending the slip in hand.
+//! Spending the slip in hand, and the bill.
 ghost use Rattle.std.specs.Prelude.{◌≡◌};
-ghost use Rattle.desk.specs.Promises.{BookMade, WriteOffMade};
+ghost use Rattle.book.specs.Book.{pages};
+ghost use Rattle.desk.specs.Promises.{BookMade, WriteOffMade, chip_below, goes_scripted};
 ghost use Rattle.desk.specs.Standing.{hand_of, standing};
+ghost use Rattle.meter.specs.Promises.{MadeBill};
+ghost use Rattle.meter.specs.Views.{meter_of};
 
 use super::Desk;
+use book::bill::Bill;
 use chip::entry::Entry;
 use chip::refusal::Refusal;
 use meter::slip::Unspent;
@@ -42,5 +46,12 @@ impl<W: Wire> Desk<'_, W> {
                 Err(refusal)
             }
         }
+    }
+
+    /// The bill of the book: a channel (1 on) over a shunt in tenths of a milliohm. It sends nothing, and all stays.
+    pub fn bill(&self, channel: u8, shunt: u16) -> Result<Bill, Refusal>
+        ensures { MadeBill W.Make.Make.sheet (chip_below W.Wire.chip) (goes_scripted W.Wire.goes) channel shunt (meter_of self.now.meter) self.now.meter.wire (pages self.now.book) result }
+    {
+        self.meter.bill(&self.book, channel, shunt)
     }
 }
