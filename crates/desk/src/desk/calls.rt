@@ -101,7 +101,8 @@ impl<W> Desk<'_, W> {
         self.meter.write_offs()
     }
 
-    pub fn scratch(&self) -> &[u8]
+    /// The replies to the last booking's reads lie at its start.
+    pub fn scratch(&self) -> &[u8; 32]
         ensures { result.now ≡ self.now.scratch }
     {
         &self.scratch
