@@ -19,9 +19,7 @@ impl<W: Wire> Desk<'_, W> {
         ensures made { BookMade W.Make.Make.sheet W.Wire.chip W.Wire.goes (hand_of self.old.slip) (standing self.old) result (standing self.new) }
         ensures same { self.new.book.places.ghost_name ≡ self.old.book.places.ghost_name }
     {
-        let Some(slip) = self.slip.take() else {
-            return Err(Refusal::NoSlip);
-        };
+        let slip = self.slip.take().ok_or(Refusal::NoSlip)?;
         match self.meter.book(slip, &mut self.book, &mut self.scratch) {
             Ok(entry) => Ok(entry),
             Err(Unspent { slip, refusal }) => {
@@ -36,13 +34,16 @@ impl<W: Wire> Desk<'_, W> {
         ensures made { WriteOffMade W.Make.Make.sheet W.Wire.chip W.Wire.goes (hand_of self.old.slip) (standing self.old) result (standing self.new) }
         ensures same { self.new.book.places.ghost_name ≡ self.old.book.places.ghost_name }
     {
-        let Some(slip) = self.slip.take() else {
-            return Err(Refusal::NoSlip);
-        };
-        match self.meter.write_off(slip) {
+        let open = self.slip.take().ok_or(Refusal::NoSlip)?;
+        match self.meter.write_off(open) {
             Ok(()) => Ok(()),
-            Err(Unspent { slip, refusal }) => {
-                self.slip = Some(slip);
+            Err(
+                Unspent {
+                    slip: kept,
+                    refusal,
+                },
+            ) => {
+                self.slip = Some(kept);
                 Err(refusal)
             }
         }

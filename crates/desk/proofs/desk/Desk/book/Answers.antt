@@ -10,16 +10,16 @@ use Rattle.meter.specs.Views.{meter_of, slip_of}
 
 pub invariant_of-self-in-Err : goal.invariant_of-self-in-Err
 invariant_of-self-in-Err g c =
-    let hand : c.args.self.now.slip ≡ Some c.in-Some.slip = sym c.take.ensures.value ∙ c.in-Some.is in
+    let hand : c.args.self.now.slip ≡ Some c.in_ok-slip.slip = sym c.take.ensures.value ∙ c.in_ok-slip.ensures.ok_part in
     let fits = subst (λ h. fits_in_hand c.args.self.now.meter h ≡ true) hand c.args.self.now.fits in
     record {
       fits = subst (λ p. fits_slip (meter_of c.book.new.self) (slip_of p) ≡ true) (sym c.in-Err.ensures.back)
-          (refused_booking_keeps g.W.Make.Make.sheet _ _ c.args.self.now.meter c.book.new.self c.in-Some.slip _ c.in-Err.field-0.refusal fits c.in-Err.ensures.made);
+          (refused_booking_keeps g.W.Make.Make.sheet _ _ c.args.self.now.meter c.book.new.self c.in_ok-slip.slip _ c.in-Err.field-0.refusal fits c.in-Err.ensures.made);
     }
 
 pub returns-in-Ok-clause-made : goal.returns-in-Ok-clause-made
 returns-in-Ok-clause-made g c =
-    let hand : c.args.self.now.slip ≡ Some c.in-Some.slip = sym c.take.ensures.value ∙ c.in-Some.is in
+    let hand : c.args.self.now.slip ≡ Some c.in_ok-slip.slip = sym c.take.ensures.value ∙ c.in_ok-slip.ensures.ok_part in
     let after : Standing g.row.W.Denot = record {
       meter = meter_of c.book.new.self;
       wire = c.book.new.self.wire;
@@ -32,7 +32,7 @@ returns-in-Ok-clause-made g c =
 
 pub returns-in-Err-clause-made : goal.returns-in-Err-clause-made
 returns-in-Err-clause-made g c =
-    let hand : c.args.self.now.slip ≡ Some c.in-Some.slip = sym c.take.ensures.value ∙ c.in-Some.is in
+    let hand : c.args.self.now.slip ≡ Some c.in_ok-slip.slip = sym c.take.ensures.value ∙ c.in_ok-slip.ensures.ok_part in
     let after : Standing g.row.W.Denot = record {
       meter = meter_of c.book.new.self;
       wire = c.book.new.self.wire;

@@ -5,6 +5,6 @@ use Rattle.desk.specs.Hand.{fits_in_hand}
 
 pub invariant_of-self-in-Err : goal.invariant_of-self-in-Err
 invariant_of-self-in-Err g c =
-    let hand : c.args.self.now.slip ≡ Some c.in-Some.slip = sym c.take.ensures.value ∙ c.in-Some.is in
+    let hand : c.args.self.now.slip ≡ Some c.in_ok-open.open = sym c.take.ensures.value ∙ c.in_ok-open.ensures.ok_part in
     let fits = subst (λ h. fits_in_hand c.args.self.now.meter h ≡ true) hand c.args.self.now.fits in
-    absurd (never_refused g.W.Make.Make.sheet _ _ c.args.self.now.meter c.write_off.new.self c.in-Some.slip fits c.in-Err.ensures.made)
+    absurd (never_refused g.W.Make.Make.sheet _ _ c.args.self.now.meter c.write_off.new.self c.in_ok-open.open fits c.in-Err.ensures.made)
