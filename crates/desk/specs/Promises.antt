@@ -1,7 +1,7 @@
 -- What the calls of a desk promise: their answer, and all that the desk is after them.
 use Rattle.std.specs.Prelude.{◌≡◌, ℕ, List, length, replicate, Some, None, Ok, Err, Option, Result}
 use Rattle.account.specs.Calls.{Added, Begun, MadeBookCall, MadeCycle}
-use Rattle.account.specs.Dialogue.{Answer, Slip, book, draw, entered, given_up, handed, refused, set_up, write_off, wrote_off}
+use Rattle.account.specs.Dialogue.{Answer, Meter, Slip, book, draw, entered, given_up, handed, refused, set_up, write_off, wrote_off}
 use Rattle.chip.specs.Datasheet.{Datasheet, Wanted}
 use Rattle.chip.specs.declared.entry.Entry.{Entry}
 use Rattle.chip.specs.declared.refusal.Refusal.{Refusal}
@@ -110,6 +110,6 @@ module _ {W : Type 0} where
         pub rest : OnlyMeter d d'
 
       -- at the end a slip in hand is written off, which nothing refuses
-      abbrev pub Ended : (hand : Option Slip) (d : Standing W) (w : Scripted W) → Type 0
-      Ended None d w = Unit {0}
-      Ended (Some p) d w = MadeAlone m (chip_below chip_of) (goes_scripted goes) (write_off p) d.meter d.wire (wrote_off d.meter) w given_up
+      abbrev pub Ended : (hand : Option Slip) (t : Meter) (u w : Scripted W) → Type 0
+      Ended None t u w = Unit {0}
+      Ended (Some p) t u w = MadeAlone m (chip_below chip_of) (goes_scripted goes) (write_off p) t u (wrote_off t) w given_up

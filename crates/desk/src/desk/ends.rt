@@ -1,12 +1,16 @@
 //! The end of a desk, and the wire given back.
-ghost use Rattle.std.specs.Prelude.{◌≡◌, ◌≢◌, None, MatchResult};
+ghost use Rattle.std.specs.Prelude.{◌≡◌, ◌≢◌, None, MatchResult, true};
 ghost use Rattle.chip.specs.declared.refusal.Refusal.TheVariants.{SlipOut};
+ghost use Rattle.desk.specs.Hand.{fits_in_hand};
 ghost use Rattle.desk.specs.Promises.{Ended};
-ghost use Rattle.desk.specs.Standing.{draw_of, hand_of, standing};
+ghost use Rattle.desk.specs.Standing.{draw_of, hand_of};
+ghost use Rattle.meter.specs.Views.{meter_of};
 
 use super::Desk;
 use book::book::Book;
 use chip::refusal::Refusal;
+use meter::meter::Meter;
+use meter::slip::Slip;
 use wire::scripted::Scripted;
 use wire::wire::Wire;
 
@@ -57,7 +61,7 @@ impl<'a, W> Desk<'a, W> {
 impl<'a, W: Wire> Desk<'a, W> {
     /// Gives the wire and the book back. A slip in hand is written off first.
     pub fn end(self) -> (Scripted<W>, Book<'a>)
-        ensures written_off { Ended W.Make.Make.sheet W.Wire.chip W.Wire.goes (hand_of self.entry.slip) (standing self.entry) result.0 }
+        ensures written_off { Ended W.Make.Make.sheet W.Wire.chip W.Wire.goes (hand_of self.entry.slip) (meter_of self.entry.meter) self.entry.meter.wire result.0 }
         ensures wire { result.0 ≡ self.entry.meter.wire }
         ensures book { result.1 ≡ self.entry.book }
     {
@@ -67,12 +71,21 @@ impl<'a, W: Wire> Desk<'a, W> {
             scratch: _,
             slip,
         } = self;
-        if let Some(slip) = slip {
-            match meter.write_off(slip) {
-                Ok(()) => {}
-                Err(_) => unreachable!(),
-            }
-        }
+        give_up(&mut meter, slip);
         (meter.release(), book)
+    }
+}
+
+// Writes the meter's open slip off, if it is in hand.
+fn give_up<W: Wire>(meter: &mut Meter<Scripted<W>>, slip: Option<Slip>)
+    requires { fits_in_hand meter.old slip ≡ true }
+    ensures written_off { Ended W.Make.Make.sheet W.Wire.chip W.Wire.goes (hand_of slip) (meter_of meter.old) meter.old.wire meter.new.wire }
+    ensures wire { meter.new.wire ≡ meter.old.wire }
+{
+    if let Some(slip) = slip {
+        match meter.write_off(slip) {
+            Ok(()) => {}
+            Err(_) => unreachable!(),
+        }
     }
 }
