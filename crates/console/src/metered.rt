@@ -52,22 +52,23 @@ fn serve_lines<W: Wire>(
     ensures { length (lines input.new.rest.now) ≤ length (lines input.old.rest.now) }
 {
     while let Some(line) = input.next() {
-        match line::parse(line).and_then(|said| DeskCommand::try_from(&said)) {
-            Err(refusal) => rt.println(Reply::from(refusal))?,
-            Ok(command) => {
-                let outcome = obey(desk, command);
-                let released = matches!((command, &outcome), (DeskCommand::Release, Ok(_)));
-                rt.println(Reply {
-                    word: command.word(),
-                    outcome,
-                })?;
-                if released {
-                    break;
-                }
-            }
+        let reply = answer(desk, line).unwrap_or_else(Reply::from);
+        let released = reply.hands_over();
+        rt.println(reply)?;
+        if released {
+            break;
         }
     }
     Ok(())
+}
+
+// The reply to a line that names a command; any other line is unreadable.
+fn answer<W: Wire>(desk: &mut Desk<W>, line: &[u8]) -> Result<Reply, Refusal> {
+    let command = DeskCommand::try_from(&line::parse(line)?)?;
+    Ok(Reply {
+        word: command.word(),
+        outcome: obey(desk, command),
+    })
 }
 
 fn obey<W: Wire>(desk: &mut Desk<W>, command: DeskCommand) -> Result<Answer, Refusal> {
@@ -77,7 +78,11 @@ fn obey<W: Wire>(desk: &mut Desk<W>, command: DeskCommand) -> Result<Answer, Ref
             Answer::Nothing
         }
         DeskCommand::SetUp { rate, off, two_way } => {
-            desk.set_up(u8::try_from(rate)?, u8::try_from(off)?, u8::try_from(two_way)?)?;
+            desk.set_up(
+                u8::try_from(rate)?,
+                u8::try_from(off)?,
+                u8::try_from(two_way)?,
+            )?;
             Answer::Nothing
         }
         DeskCommand::Draw => Answer::Draw(desk.draw()?),
@@ -96,7 +101,7 @@ fn obey<W: Wire>(desk: &mut Desk<W>, command: DeskCommand) -> Result<Answer, Ref
         DeskCommand::Scratch => Answer::Scratch(*desk.scratch()),
         DeskCommand::Release => {
             desk.may_release()?;
-            Answer::Nothing
+            Answer::Handover
         }
     })
 }

@@ -21,25 +21,26 @@ pub(crate) fn serve<W: Wire + Drop>(
     mut input: Input,
 ) -> anyhow::Result<()> {
     while let Some(line) = input.next() {
-        match line::parse(line) {
-            Err(refusal) => rt.println(Reply::from(refusal))?,
-            Ok(said) => match RawCommand::try_from(&said) {
-                Err(refusal) => rt.println(Reply::from(refusal))?,
-                Ok(RawCommand::Meter) => {
-                    rt.println(Reply::done("meter"))?;
-                    wire = metered::serve(rt, wire, &mut input)?;
-                }
-                Ok(command) => rt.println(Reply {
-                    word: command.word(),
-                    outcome: obey(&mut wire, command),
-                })?,
-            },
+        let reply = answer(&mut wire, line).unwrap_or_else(Reply::from);
+        let wanted = reply.hands_over();
+        rt.println(reply)?;
+        if wanted {
+            wire = metered::serve(rt, wire, &mut input)?;
         }
     }
     Ok(())
 }
 
-// Only a read answers anything.
+// The reply to a line that names a command; any other line is unreadable.
+fn answer<W: Wire>(wire: &mut Scripted<W>, line: &[u8]) -> Result<Reply, Refusal> {
+    let said = line::parse(line)?;
+    let command = RawCommand::try_from(&said)?;
+    Ok(Reply {
+        word: command.word(),
+        outcome: obey(wire, command),
+    })
+}
+
 fn obey<W: Wire>(wire: &mut Scripted<W>, command: RawCommand) -> Result<Answer, Refusal> {
     match command {
         RawCommand::Bench(command) => wire.obey_bench(command)?,
@@ -48,7 +49,7 @@ fn obey<W: Wire>(wire: &mut Scripted<W>, command: RawCommand) -> Result<Answer, 
         RawCommand::Read { address, length } => {
             return Ok(Answer::Bytes(read(wire, address, length)?));
         }
-        RawCommand::Meter => {}
+        RawCommand::Meter => return Ok(Answer::Handover),
     }
     Ok(Answer::Nothing)
 }

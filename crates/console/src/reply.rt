@@ -35,6 +35,8 @@ pub(crate) enum Answer {
     Bill(Bill),
     Reading(Reading),
     State(State),
+    // nothing, and the wire goes to a meter or comes back from it
+    Handover,
 }
 
 #[derive(Drop)]
@@ -50,6 +52,10 @@ impl Reply {
             word,
             outcome: Ok(Answer::Nothing),
         }
+    }
+
+    pub(crate) fn hands_over(&self) -> bool {
+        matches!(self.outcome, Ok(Answer::Handover))
     }
 }
 
@@ -115,7 +121,7 @@ fn write_entry<W: fmt::Write>(f: &mut fmt::Formatter<W>, entry: &Entry) -> fmt::
 impl fmt::Display for Answer {
     fn fmt<W: fmt::Write>(&self, f: &mut fmt::Formatter<W>) -> fmt::Result {
         match self {
-            Answer::Nothing => Ok(()),
+            Answer::Nothing | Answer::Handover => Ok(()),
             Answer::Bytes(bytes) => write_bytes(f, bytes.as_slice()),
             Answer::Scratch(bytes) => write_bytes(f, bytes),
             Answer::Draw(draw) => write!(f, ",{draw}"),
