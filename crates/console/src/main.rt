@@ -1,20 +1,22 @@
-//! A bench client for the chips: raw transactions and conversion cycles, line by line from standard input.
+//! A bench client for the chips, line by line from standard input: raw transactions, or a meter's calls.
 #![tactic(auto)]
 
 mod bench;
 mod command;
+mod metered;
+mod raw;
 mod reply;
 
-use bench::Bench;
 use chip::make::Make;
 use command::Kind;
 use lines::input::Input;
 use lines::line;
 use makes::pac193x::Pac193x;
 use makes::pac194x::Pac194x;
-use reply::{Bytes, Reply};
+use reply::Reply;
 use std::io::Read;
 use wire::direct::Direct;
+use wire::scripted::Scripted;
 
 // The first 64 KiB of standard input are read.
 const LIMIT: u64 = 65536;
@@ -39,13 +41,6 @@ fn run(rt: &impl Print, mut input: Input) -> anyhow::Result<()> {
 
 // Every line after the `kind` line, for a fresh chip of that make.
 fn serve<M: Make>(rt: &impl Print, input: Input) -> anyhow::Result<()> {
-    let mut bench = Bench::new(Direct::<M>::new());
-    rt.println(Reply {
-        word: "kind",
-        outcome: Ok(Bytes::new()),
-    })?;
-    for line in input {
-        rt.println(bench.answer(line).unwrap_or_else(Reply::from))?;
-    }
-    Ok(())
+    rt.println(Reply::done("kind"))?;
+    raw::serve(rt, Scripted::new(Direct::<M>::new()), input)
 }

@@ -1,0 +1,3 @@
+pub mod Hand
+pub mod Standing
+pub mod Promises

@@ -1,0 +1,4 @@
+//! What a person at the meter holds.
+#![tactic(auto)]
+
+pub mod desk;
