@@ -1,19 +1,24 @@
 //! The slip of a draw. Whoever has one books it or writes it off.
-ghost use Rattle.std.specs.Prelude.{◌≡◌};
+ghost use Rattle.std.specs.Prelude.{◌≡◌, true, false};
 
 use chip::refusal::Refusal;
 
-/// It cannot be copied or made elsewhere, and its end asks what nothing proves: only a booking or a write-off spends it.
+/// It cannot be copied or made elsewhere, and its end asks that it is spent: only a booking or a write-off spends it.
 pub struct Slip {
     meter: u32,
     draw: u32,
+    spent: bool,
 }
 
 impl Drop for Slip {
     fn drop(self)
-        requires { ⊥ }
+        requires { self.spent ≡ true }
     {
-        let Slip { meter: _, draw: _ } = self;
+        let Slip {
+            meter: _,
+            draw: _,
+            spent: _,
+        } = self;
     }
 }
 
@@ -25,9 +30,13 @@ pub struct Unspent {
 
 impl Slip {
     pub(crate) fn new(meter: u32, draw: u32) -> Slip
-        ensures { result ≡ record { meter = meter; draw = draw } }
+        ensures { result ≡ record { meter = meter; draw = draw; spent = false } }
     {
-        Slip { meter, draw }
+        Slip {
+            meter,
+            draw,
+            spent: false,
+        }
     }
 
     /// The number of the meter that handed it out.
@@ -44,8 +53,8 @@ impl Slip {
         self.draw
     }
 
-    pub(crate) fn spend(self) {
-        let Slip { meter: _, draw: _ } = self;
+    pub(crate) fn spend(mut self) {
+        self.spent = true;
     }
 
     pub(crate) fn refused(self, refusal: Refusal) -> Unspent
