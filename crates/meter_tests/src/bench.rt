@@ -16,7 +16,7 @@ use wire::wire::Wire;
 
 pub(crate) trait Known: Make + Drop {
     // the product of v 40000, s 20000
-    const PRODUCT: i64;
+    const PRODUCT: u32;
 
     // what one such cycle is worth at rate code 0 over 10 milliohms, in whole millijoules
     const ENERGY: i128;
@@ -38,7 +38,7 @@ pub(crate) trait Known: Make + Drop {
 }
 
 impl Known for Pac193x {
-    const PRODUCT: i64 = 50_000_000;
+    const PRODUCT: u32 = 50_000_000;
 
     const ENERGY: i128 = 58;
 
@@ -54,7 +54,7 @@ impl Known for Pac193x {
 }
 
 impl Known for Pac194x {
-    const PRODUCT: i64 = 200_000_000;
+    const PRODUCT: u32 = 200_000_000;
 
     const ENERGY: i128 = 16;
 
@@ -111,7 +111,7 @@ impl Line {
             spoilt: 0,
             count: u32::from(count),
             settings,
-            sums: [i64::from(count) * M::PRODUCT, 0, 0, 0],
+            sums: [i64::from(count) * i64::from(M::PRODUCT), 0, 0, 0],
         }
     }
 }

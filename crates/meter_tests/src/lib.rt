@@ -5,8 +5,18 @@
 #[cfg(test)]
 mod bench;
 #[cfg(test)]
+mod bookings;
+#[cfg(test)]
+mod conservation;
+#[cfg(test)]
 mod listing;
+#[cfg(test)]
+mod looks;
 #[cfg(test)]
 mod numbers;
 #[cfg(test)]
+mod settings;
+#[cfg(test)]
 mod slips;
+#[cfg(test)]
+mod spoilt;

@@ -32,19 +32,19 @@ fn refused<W: Wire>(
 }
 
 // Two meters that differ in their number, or in the draw numbers they used: each takes its own slip alone.
-fn crosswise<M: Known>(rt: &impl Abort, number: u32, last: u32) {
+fn crosswise<M: Known>(rt: &impl Abort, number: u32, last: u32, draw: u32) {
     let mut first = bench::plain::<M>(1, 0);
     let mut second = bench::plain::<M>(number, last);
     bench::cycles(&mut second, 1);
     let slip = bench::drawn(rt, &mut first);
     let other = bench::drawn(rt, &mut second);
     let slip = refused(rt, &mut second, slip, (1, 1));
-    let other = refused(rt, &mut first, other, (number, last + 1));
+    let other = refused(rt, &mut first, other, (number, draw));
     bench::write_off(rt, &mut first, slip);
     assert_eq!(rt; first.write_offs(), 1);
     let mut places = [BLANK; 1];
     let line = bench::book(rt, &mut second, other, &mut Book::new(&mut places, 0));
-    assert_eq!(rt; line, Line::sound::<M>(last + 1, 1, [0, 0, 0]));
+    assert_eq!(rt; line, Line::sound::<M>(draw, 1, [0, 0, 0]));
     let _ = first.release();
     let _ = second.release();
 }
@@ -66,8 +66,8 @@ fn with_none_out<M: Known>(rt: &impl Abort, outcomes: &[u8], condition: Conditio
 }
 
 fn wrong_slips<M: Known>(rt: &impl Abort) {
-    for (number, last) in [(2, 0), (1, 1), (2, 7)] {
-        crosswise::<M>(rt, number, last);
+    for (number, last, draw) in [(2, 0, 1), (1, 1, 2), (2, 7, 8)] {
+        crosswise::<M>(rt, number, last, draw);
     }
     with_none_out::<M>(rt, &[], Condition::Ready);
     with_none_out::<M>(rt, &[1], Condition::Unfinished);
