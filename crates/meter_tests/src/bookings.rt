@@ -18,7 +18,8 @@ fn refused<W: Wire>(
     rt: &impl Abort,
     meter: &mut Meter<W>,
     slip: Slip,
-    (book, length): (&mut Book<'_>, usize),
+    book: &mut Book<'_>,
+    length: usize,
     expected: Refusal,
 ) -> Slip {
     let mut scratch = [FILL; 40];
@@ -36,23 +37,21 @@ fn refused<W: Wire>(
 // What is wrong with a book or a scratch is told before what is wrong with the slip, and that before a full book.
 fn limits_first<W: Wire>(rt: &impl Abort, meter: &mut Meter<W>, wrong: Slip) -> Slip {
     let mut places = [BLANK; 1];
-    let full = &mut Book::new(&mut places, 1);
-    let wrong = refused(rt, meter, wrong, (full, 31), Refusal::Limits);
-    let wrong = refused(rt, meter, wrong, (full, 0), Refusal::Limits);
-    let wrong = refused(rt, meter, wrong, (full, 32), Refusal::WrongSlip);
-    let none = &mut Book::new(&mut [], 0);
-    let wrong = refused(rt, meter, wrong, (none, 32), Refusal::Limits);
-    let overfull = &mut Book::new(&mut places, 2);
-    refused(rt, meter, wrong, (overfull, 32), Refusal::Limits)
+    let mut none = Book::new(&mut [], 0);
+    let wrong = refused(rt, meter, wrong, &mut none, 32, Refusal::Limits);
+    let mut overfull = Book::new(&mut places, 2);
+    let wrong = refused(rt, meter, wrong, &mut overfull, 32, Refusal::Limits);
+    let mut full = Book::new(&mut places, 1);
+    let wrong = refused(rt, meter, wrong, &mut full, 31, Refusal::Limits);
+    refused(rt, meter, wrong, &mut full, 32, Refusal::WrongSlip)
 }
 
 // The same with the open slip; a full book is told before anything is sent.
 fn then_a_full_book<W: Wire>(rt: &impl Abort, meter: &mut Meter<W>, slip: Slip) -> Slip {
     let mut places = [BLANK; 1];
-    let full = &mut Book::new(&mut places, 1);
-    let slip = refused(rt, meter, slip, (full, 31), Refusal::Limits);
-    let slip = refused(rt, meter, slip, (full, 32), Refusal::Full);
-    let slip = refused(rt, meter, slip, (full, 40), Refusal::Full);
+    let mut full = Book::new(&mut places, 1);
+    let slip = refused(rt, meter, slip, &mut full, 31, Refusal::Limits);
+    let slip = refused(rt, meter, slip, &mut full, 32, Refusal::Full);
     assert_eq!(rt; Line::of(places[0]), Line::of(BLANK));
     slip
 }
@@ -93,20 +92,16 @@ fn refusals_in_order_on_a_194x(rt: HostRuntime) {
     refusals_in_order::<Pac194x>(&rt);
 }
 
-// A book of 4,096 places takes an entry at its last; one of 4,097 none.
+// A book of 4,097 places takes no entry; one of 4,096 takes one at its last.
 fn the_largest_book<M: Known>(rt: &impl Abort) {
     let mut meter = bench::plain::<M>(1, 0);
     bench::cycles(&mut meter, 1);
     let slip = bench::drawn(rt, &mut meter);
-    let mut places = [BLANK; 4097];
-    let slip = refused(
-        rt,
-        &mut meter,
-        slip,
-        (&mut Book::new(&mut places, 0), 32),
-        Refusal::Limits,
-    );
-    let mut book = Book::new(&mut places[..4096], 4095);
+    let mut too_many = [BLANK; 4097];
+    let mut book = Book::new(&mut too_many, 0);
+    let slip = refused(rt, &mut meter, slip, &mut book, 32, Refusal::Limits);
+    let mut places = [BLANK; 4096];
+    let mut book = Book::new(&mut places, 4095);
     let line = bench::book(rt, &mut meter, slip, &mut book);
     assert_eq!(rt;
         bench::billed(rt, meter.bill(&book, 1, 100)),
@@ -114,7 +109,6 @@ fn the_largest_book<M: Known>(rt: &impl Abort) {
     );
     assert_eq!(rt; Line::of(places[4095]), line);
     assert_eq!(rt; Line::of(places[4094]), Line::of(BLANK));
-    assert_eq!(rt; Line::of(places[4096]), Line::of(BLANK));
     let _ = meter.release();
 }
 

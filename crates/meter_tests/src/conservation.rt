@@ -58,16 +58,11 @@ fn round<M: Known>(
     bench::book(rt, meter, slip, book)
 }
 
-// The count and the sum of all entries.
-fn totals(rt: &impl Abort, places: &[Entry]) -> (u64, i128) {
-    let mut count: u64 = 0;
-    let mut sum: i128 = 0;
-    for entry in places {
-        assert_eq!(rt; entry.spoilt, 0);
-        count = count.saturating_add(u64::from(entry.count));
-        sum = sum.saturating_add(i128::from(entry.sums[0]));
-    }
-    (count, sum)
+// How many cycles all entries count.
+fn counted(places: &[Entry]) -> u32 {
+    places
+        .iter()
+        .fold(0, |count: u32, entry| count.saturating_add(entry.count))
 }
 
 // A REFRESH that was carried out closes the stretch at once, so that the two cycles after it are the next entry's; else they are this one's.
@@ -75,7 +70,7 @@ fn every_failure<M: Known>(rt: &impl Abort) {
     let mut meter = bench::faulty::<M>(1, 0);
     let mut places = [BLANK; 16];
     let mut book = Book::new(&mut places, 0);
-    let mut cycles: u64 = 0;
+    let mut cycles: u32 = 0;
     for outcome in 1..=3 {
         for (passes, address) in M::DRAW.iter().enumerate() {
             let failure = Failure {
@@ -85,14 +80,15 @@ fn every_failure<M: Known>(rt: &impl Abort) {
             };
             let line = round(rt, &mut meter, &mut book, failure);
             let lost = *address == 0x00 && outcome == 3;
-            assert_eq!(rt; line.count, if lost { 3 } else { 5 });
+            let count = if lost { 3 } else { 5 };
+            assert_eq!(rt; line, Line::sound::<M>(meter.last(), count, [0, 0, 0]));
             cycles = cycles.saturating_add(5);
         }
     }
     let slip = bench::drawn(rt, &mut meter);
-    assert_eq!(rt; bench::book(rt, &mut meter, slip, &mut book).count, 2);
-    let sum = i128::from(M::PRODUCT) * i128::from(cycles);
-    assert_eq!(rt; totals(rt, &places), (cycles, sum));
+    let line = bench::book(rt, &mut meter, slip, &mut book);
+    assert_eq!(rt; line, Line::sound::<M>(meter.last(), 2, [0, 0, 0]));
+    assert_eq!(rt; counted(&places), cycles);
     let _ = meter.release();
 }
 

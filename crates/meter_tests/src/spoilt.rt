@@ -1,5 +1,5 @@
 //! Stretches whose sum just fits its register, and just leaves it.
-use crate::bench::{self, BLANK, Known};
+use crate::bench::{self, BLANK, Known, Line};
 use book::book::Book;
 use chip::state::Codes;
 use makes::pac193x::Pac193x;
@@ -63,6 +63,17 @@ fn largest<W: Wire>(meter: &mut Meter<W>, n: u32) {
     }
 }
 
+// What the entry of a stretch on channel 1 says.
+fn line_of(draw: u32, spoilt: u8, count: u32, sum: i64) -> Line {
+    Line {
+        draw,
+        spoilt,
+        count,
+        settings: [0, 0, 0],
+        sums: [sum, 0, 0, 0],
+    }
+}
+
 // The entry of a stretch that left a register is marked, and the bill passes over it; the next stretch is sound again.
 fn a_spoilt_stretch<M: Long>(rt: &impl Abort) {
     let mut meter = bench::plain::<M>(1, 0);
@@ -71,18 +82,12 @@ fn a_spoilt_stretch<M: Long>(rt: &impl Abort) {
     largest(&mut meter, M::LEAVES);
     let slip = bench::drawn(rt, &mut meter);
     let line = bench::book(rt, &mut meter, slip, &mut book);
-    assert_eq!(rt;
-        (line.spoilt, line.count, line.sums),
-        (1, M::LEAVES, [M::OVER, 0, 0, 0])
-    );
+    assert_eq!(rt; line, line_of(1, 1, M::LEAVES, M::OVER));
     assert_eq!(rt; bench::billed(rt, meter.bill(&book, 1, 100)), (0, 0, 1));
     largest(&mut meter, M::FITS);
     let slip = bench::drawn(rt, &mut meter);
     let line = bench::book(rt, &mut meter, slip, &mut book);
-    assert_eq!(rt;
-        (line.spoilt, line.count, line.sums),
-        (0, M::FITS, [M::SUM, 0, 0, 0])
-    );
+    assert_eq!(rt; line, line_of(2, 0, M::FITS, M::SUM));
     assert_eq!(rt;
         bench::billed(rt, meter.bill(&book, 1, 100)),
         (M::WORTH, 1, 1)
