@@ -56,10 +56,7 @@ pub(crate) fn refused(refusal: Refusal) -> anyhow::Error {
 }
 
 // Its settings come in force with a first draw. Then its cycles come, both quantities are looked at, and a second draw is booked and billed.
-fn run<W: Wire>(
-    meter: &mut Meter<W>,
-    case: &Case,
-) -> Result<(Reading, Reading, f64), Refusal> {
+fn run<W: Wire>(meter: &mut Meter<W>, case: &Case) -> Result<(Reading, Reading, f64), Refusal> {
     let mut places = [BLANK; 2];
     let mut book = Book::new(&mut places, 0);
     meter.set_up(case.rate.code(), 0, case.sense.mask())?;

@@ -50,8 +50,12 @@ pub(crate) enum Rate {
 }
 
 impl Rate {
-    pub(crate) const ALL: [Rate; 4] =
-        [Rate::Hertz1024, Rate::Hertz256, Rate::Hertz64, Rate::Hertz8];
+    pub(crate) const ALL: [Rate; 4] = [
+        Rate::Hertz1024,
+        Rate::Hertz256,
+        Rate::Hertz64,
+        Rate::Hertz8,
+    ];
 
     // As a set-up takes it.
     pub(crate) fn code(self) -> u8 {
@@ -79,7 +83,9 @@ pub(crate) struct Shunt(pub(crate) u16);
 
 impl Shunt {
     pub(crate) const TEN_MILLIOHMS: Shunt = Shunt(100);
+
     pub(crate) const THREE_TENTHS: Shunt = Shunt(3);
+
     pub(crate) const ONE_TENTH: Shunt = Shunt(1);
 
     pub(crate) fn milliohms(self) -> f64 {

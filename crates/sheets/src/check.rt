@@ -3,8 +3,7 @@
 use super::case::{Case, Shunt};
 use super::sheet::Sheeted;
 use meter::reading::Reading;
-use std::fmt;
-use std::io;
+use std::{fmt, io};
 
 // What a figure may differ by where a division is not exact, as a part of it: a few of the last bits.
 const TOLERANCE: f64 = 1e-14;
@@ -96,7 +95,8 @@ pub(crate) struct Check {
 }
 
 // Over the columns of the table.
-pub(crate) const HEAD: &str = "make     figure            bus   sense          cycles  rate  mOhm            data sheet                  ours";
+pub(crate) const HEAD: &str =
+    "make     figure          bus   sense          cycles  rate  mOhm             data sheet                      ours";
 
 impl Check {
     pub(crate) fn new<M: Sheeted>(case: Case, sheet: Figure, ours: Figure) -> Check {
@@ -117,11 +117,17 @@ impl fmt::Display for Check {
     fn fmt<W: fmt::Write>(&self, f: &mut fmt::Formatter<W>) -> fmt::Result {
         let case = &self.case;
         write!(f, "{}  {:<13} ", self.make, self.sheet.name())?;
-        write!(f, "{:>6}  {:>6} {}", case.bus, case.sense.value(), case.sense.way())?;
-        write!(f, " {:>6}  {:>4}", case.cycles, case.rate.per_second())?;
-        write!(f, " {:>5} ", case.shunt.milliohms())?;
-        write!(f, " {:>22} {:<2}", self.sheet.value(), self.sheet.unit())?;
-        write!(f, " {:>19} {:<2}", self.ours.value(), self.ours.unit())?;
+        write!(
+            f,
+            "{:>5}  {:>6} {}",
+            case.bus,
+            case.sense.value(),
+            case.sense.way()
+        )?;
+        write!(f, "  {:>6}  {:>4}", case.cycles, case.rate.per_second())?;
+        write!(f, "  {:>4}", case.shunt.milliohms())?;
+        write!(f, "  {:>21} {:<2}", self.sheet.value(), self.sheet.unit())?;
+        write!(f, "  {:>21} {:<2}", self.ours.value(), self.ours.unit())?;
         write!(f, "  {}", verdict(self.sheet.agrees(self.ours)))
     }
 }

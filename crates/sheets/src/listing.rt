@@ -9,12 +9,15 @@ use chip::refusal::Refusal;
 use chip::state::Codes;
 use makes::pac193x::Pac193x;
 use meter::meter::Meter;
-use std::fmt;
-use std::io;
+use std::{fmt, io};
 use wire::direct::Direct;
 use wire::wire::Wire;
 
+// What the draw, the booking and the bill answer.
+const DRAW: [i64; 1] = [1];
+
 const ENTRY: [i64; 10] = [1, 0, 1, 0, 0, 0, 50_000_000, 0, 0, 0];
+
 const BILL: [i64; 3] = [58, 1, 0];
 
 // The fields of one answer.
@@ -45,16 +48,29 @@ impl<const N: usize> Answer<N> {
     // Counts it and prints its line.
     fn show(&self, rt: &impl Print, tally: &mut Tally) -> io::Result<()> {
         tally.count(self.agrees());
-        println!(rt; "listing  {}{}  ours {}{}  {}",
-            self.word, Fields(&self.expected), self.word, Fields(&self.ours), check::verdict(self.agrees()))
+        println!(rt;
+            "listing  {}{}  ours {}{}  {}",
+            self.word,
+            Fields(&self.expected),
+            self.word,
+            Fields(&self.ours),
+            check::verdict(self.agrees())
+        )
     }
 }
 
 pub(crate) fn check(rt: &impl Print, tally: &mut Tally) -> anyhow::Result<()> {
     let mut meter = Meter::new(Direct::<Pac193x>::new(), 1, 0);
     let followed = follow(&mut meter);
+    let last = meter.last();
     let _ = meter.release();
     let (entry, bill) = followed.map_err(bench::refused)?;
+    let drawn = Answer {
+        word: "draw",
+        expected: DRAW,
+        ours: [i64::from(last)],
+    };
+    drawn.show(rt, tally)?;
     let booked = Answer {
         word: "book",
         expected: ENTRY,

@@ -94,11 +94,7 @@ fn check_power<M: Sheeted>(
 }
 
 // The bill.
-fn check_energy<M: Sheeted>(
-    rt: &impl Print,
-    tally: &mut Tally,
-    case: Case,
-) -> anyhow::Result<()> {
+fn check_energy<M: Sheeted>(rt: &impl Print, tally: &mut Tally, case: Case) -> anyhow::Result<()> {
     let energy = Figure::Millijoules(M::sheet().energy(&case));
     let ours = Figure::Millijoules(bench::measure::<M>(&case)?.energy);
     tally.show(rt, Check::new::<M>(case, energy, ours))?;

@@ -22,14 +22,14 @@ pub(crate) const POWERS: [(u16, Sense); 7] = [
     (40000, Sense::TwoWay(20000)),
     (40000, Sense::TwoWay(-20000)),
     (65532, Sense::TwoWay(-32768)),
-    (4, Sense::TwoWay(-4)),
+    (4096, Sense::TwoWay(-4)),
 ];
 
 // Such codes, in how many cycles, over which shunt.
 pub(crate) const ENERGIES: [(u16, Sense, u16, Shunt); 5] = [
     (32768, Sense::OneWay(16384), 1, Shunt::ONE_TENTH),
     (32768, Sense::TwoWay(16384), 1, Shunt::ONE_TENTH),
-    (40000, Sense::OneWay(20000), 1000, Shunt::TEN_MILLIOHMS),
-    (40000, Sense::TwoWay(-20000), 1000, Shunt::TEN_MILLIOHMS),
+    (40000, Sense::OneWay(20000), 100, Shunt::TEN_MILLIOHMS),
+    (40000, Sense::TwoWay(-20000), 100, Shunt::TEN_MILLIOHMS),
     (65532, Sense::TwoWay(-4), 1, Shunt::TEN_MILLIOHMS),
 ];

@@ -12,5 +12,5 @@ unreachable-requires g c =
     let t2 = meter_of c.book.new.self in
     let t3 = meter_of c.write_off.new.self in
     let off = subst (λ p. MadeAlone m g.W.Wire.chip g.W.Wire.goes (write_off (slip_of p)) t2 c.book.new.self.wire t3 c.write_off.new.self.wire (refused c.in-Err-write_off.field-0.refusal))
-        c.in-Err.ensures.back c.in-Err-write_off.ensures.made in
+    c.in-Err.ensures.back c.in-Err-write_off.ensures.made in
     drawn_can_be_written_off m g.W.Wire.chip g.W.Wire.goes (meter_of c.args.meter.now) t1 t2 t3 (slip_of c.in_ok-slip.slip) _ _ _ c.in_ok-slip.ensures c.in-Err.ensures.made off
