@@ -69,13 +69,7 @@ fn refusals_in_order<M: Known>(rt: &impl Abort) {
     let slip = then_a_full_book(rt, &mut meter, slip);
     let mut places = [BLANK; 1];
     let mut book = Book::new(&mut places, 0);
-    let slip = refused(
-        rt,
-        &mut meter,
-        slip,
-        (&mut book, 32),
-        bench::failure(1, 0x02),
-    );
+    let slip = refused(rt, &mut meter, slip, &mut book, 32, bench::failure(1, 0x02));
     let line = bench::book(rt, &mut meter, slip, &mut book);
     assert_eq!(rt; line, Line::sound::<M>(1, 1, [0, 0, 0]));
     let _ = other.release();
