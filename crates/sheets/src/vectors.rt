@@ -31,5 +31,5 @@ pub(crate) const ENERGIES: [(u16, Sense, u16, Shunt); 5] = [
     (32768, Sense::TwoWay(16384), 1, Shunt::ONE_TENTH),
     (40000, Sense::OneWay(20000), 100, Shunt::TEN_MILLIOHMS),
     (40000, Sense::TwoWay(-20000), 100, Shunt::TEN_MILLIOHMS),
-    (65532, Sense::TwoWay(-4), 1, Shunt::TEN_MILLIOHMS),
+    (65532, Sense::TwoWay(-400), 1, Shunt::TEN_MILLIOHMS),
 ];
