@@ -3,14 +3,14 @@
 use super::bench::{self, BLANK};
 use super::check::{self, Tally};
 use book::bill::Bill;
-use book::book::Book;
 use chip::entry::Entry;
 use chip::refusal::Refusal;
 use chip::state::Codes;
+use desk::desk::Desk;
 use makes::pac193x::Pac193x;
-use meter::meter::Meter;
 use std::{fmt, io};
 use wire::direct::Direct;
+use wire::scripted::Scripted;
 use wire::wire::Wire;
 
 // What the draw, the booking and the bill answer.
@@ -60,15 +60,15 @@ impl<const N: usize> Answer<N> {
 }
 
 pub(crate) fn check(rt: &impl Print, tally: &mut Tally) -> anyhow::Result<()> {
-    let mut meter = Meter::new(Direct::<Pac193x>::new(), 1, 0);
-    let followed = follow(&mut meter);
-    let last = meter.last();
-    let _ = meter.release();
-    let (entry, bill) = followed.map_err(bench::refused)?;
+    let mut places = [BLANK; 64];
+    let mut desk = Desk::new(Scripted::new(Direct::<Pac193x>::new()), &mut places);
+    let followed = follow(&mut desk);
+    let _ = desk.end();
+    let (draw, entry, bill) = followed.map_err(bench::refused)?;
     let drawn = Answer {
         word: "draw",
         expected: DRAW,
-        ours: [i64::from(last)],
+        ours: [i64::from(draw)],
     };
     drawn.show(rt, tally)?;
     let booked = Answer {
@@ -87,18 +87,17 @@ pub(crate) fn check(rt: &impl Print, tally: &mut Tally) -> anyhow::Result<()> {
 }
 
 // The set-up comes in force with the draw, so the entry has the settings before it.
-fn follow<W: Wire>(meter: &mut Meter<W>) -> Result<(Entry, Bill), Refusal> {
+fn follow<W: Wire>(desk: &mut Desk<W>) -> Result<(u32, Entry, Bill), Refusal> {
     let idle = Codes { bus: 0, sense: 0 };
     let busy = Codes {
         bus: 40000,
         sense: 20000,
     };
-    let mut places = [BLANK; 64];
-    let mut book = Book::new(&mut places, 0);
-    meter.cycle([busy, idle, idle, idle]);
-    meter.set_up(3, 0, 0)?;
-    let entry = bench::draw_and_book(meter, &mut book)?;
-    Ok((entry, meter.bill(&book, 1, 100)?))
+    desk.cycle([busy, idle, idle, idle]);
+    desk.set_up(3, 0, 0)?;
+    let draw = desk.draw()?;
+    let entry = desk.book()?;
+    Ok((draw, entry, desk.bill(1, 100)?))
 }
 
 fn entry_fields(entry: &Entry) -> [i64; 10] {
