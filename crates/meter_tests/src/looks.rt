@@ -24,7 +24,10 @@ const CODES: [Codes; 4] = [
         bus: 65535,
         sense: 20000,
     },
-    Codes { bus: 0, sense: 0 },
+    Codes {
+        bus: 0,
+        sense: 40000,
+    },
 ];
 
 trait Seen: Known {
@@ -40,10 +43,13 @@ impl Seen for Pac194x {
     const VOLTS: [f64; 4] = [4.5, 2.25, 8.9998626708984375, 0.0];
 }
 
-// What the sense codes are in millivolts, one-way and two-way, on both makes.
-const ONE_WAY: [f64; 4] = [99.99847412109375, 50.0, 30.517578125, 0.0];
+// What the sense codes are in millivolts on both makes, first one-way, then with channels 1 and 3 two-way.
+const ONE_WAY: [f64; 4] = [99.99847412109375, 50.0, 30.517578125, 61.03515625];
 
-const TWO_WAY: [f64; 4] = [-0.0030517578125, -100.0, 61.03515625, 0.0];
+const MIXED: [f64; 4] = [-0.0030517578125, 50.0, 61.03515625, 61.03515625];
+
+// And with all of them two-way.
+const TWO_WAY: [f64; 4] = [-0.0030517578125, -100.0, 61.03515625, -77.9296875];
 
 fn volts<W: Wire>(rt: &impl Abort, meter: &mut Meter<W>, channel: u8) -> f64 {
     match meter.look(channel, 0) {
@@ -69,6 +75,13 @@ fn shows<W: Wire>(rt: &impl Abort, meter: &mut Meter<W>, expected: [f64; 4]) {
     }
 }
 
+// A two-way mask put in force by a draw.
+fn in_force<W: Wire>(rt: &impl Abort, meter: &mut Meter<W>, two_way: u8) {
+    assert_eq!(rt; meter.set_up(0, 0, two_way), Ok(()));
+    let slip = bench::drawn(rt, meter);
+    bench::write_off(rt, meter, slip);
+}
+
 // A set-up changes what a sense code means only once it is in force.
 fn what_looks_show<M: Seen>(rt: &impl Abort) {
     let mut meter = bench::plain::<M>(1, 0);
@@ -80,10 +93,11 @@ fn what_looks_show<M: Seen>(rt: &impl Abort) {
         );
     }
     shows(rt, &mut meter, ONE_WAY);
+    in_force(rt, &mut meter, 10);
+    shows(rt, &mut meter, MIXED);
     assert_eq!(rt; meter.set_up(0, 0, 15), Ok(()));
-    shows(rt, &mut meter, ONE_WAY);
-    let slip = bench::drawn(rt, &mut meter);
-    bench::write_off(rt, &mut meter, slip);
+    shows(rt, &mut meter, MIXED);
+    in_force(rt, &mut meter, 15);
     shows(rt, &mut meter, TWO_WAY);
     let _ = meter.release();
 }
