@@ -11,11 +11,11 @@ pub(crate) struct Difference<'a> {
 }
 
 impl<'a> Difference<'a> {
-    // The first line that is not the same. What stands after the last newline is a line too, so the newline counts.
+    // The first line that is not the same. A line has its newline, so a last one without counts as another.
     pub(crate) fn first(printed: &'a str, expected: &'a str) -> Option<Difference<'a>> {
-        let mut printed = printed.split('\n');
+        let mut printed = printed.split_inclusive('\n');
         let mut number = 0u32;
-        for expected in expected.split('\n') {
+        for expected in expected.split_inclusive('\n') {
             number = number.saturating_add(1);
             let printed = printed.next();
             if printed != Some(expected) {
@@ -45,7 +45,7 @@ impl fmt::Display for Difference<'_> {
 
 fn quote<W: fmt::Write>(f: &mut fmt::Formatter<W>, line: Option<&str>) -> fmt::Result {
     match line {
-        Some(line) => write!(f, "\"{line}\""),
+        Some(line) => write!(f, "{line:?}"),
         None => write!(f, "no line"),
     }
 }
