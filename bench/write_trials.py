@@ -99,9 +99,13 @@ def add_outcomes():
         def one_is_refused(n):
             return [*faults(*[0] * (n % (writes + 1)), 1), "draw"]
 
+        def one_is_refused_after_doubt(n):
+            return [*refresh_breaks, *faults(0), *one_is_refused(n)]
+
         trial_draws(kind, "draw-from-ready", writes + 1, lambda n: [])
         trial_draws(kind, "draw-from-unfinished", writes + 1, one_is_refused)
         trial_draws(kind, "draw-from-doubt", writes + 2, lambda n: refresh_breaks)
+        trial_draws(kind, "draw-from-unfinished-after-doubt", writes + 1, one_is_refused_after_doubt)
         trial_draws(kind, "draw-from-doubt-carried-out", 1, lambda n: refresh_loses_its_reply)
         trial_bookings(kind)
 
