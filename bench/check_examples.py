@@ -4,6 +4,7 @@
     bench/check_examples.py                                      the model's console
     bench/check_examples.py ./run console                        the command given
     bench/check_examples.py ./run trailer examples/trailer       on another folder
+    bench/check_examples.py bench/model.py trailer crates/trials/data
 
 The last argument is the folder if it names one, else the folder is examples/.
 Every .txt of the folder with a .out beside it is fed to the program; what it
