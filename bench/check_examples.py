@@ -1,10 +1,13 @@
 #!/usr/bin/env python3
-"""Compare a console program with the examples.
+"""Compare a program that reads lines with examples.
 
-    bench/check_examples.py                  runs the model
-    bench/check_examples.py ./run console    runs the command given
+    bench/check_examples.py                                      the model's console
+    bench/check_examples.py ./run console                        the command given
+    bench/check_examples.py ./run trailer examples/trailer       on another folder
+    bench/check_examples.py bench/model.py trailer crates/trials/data
 
-Every examples/*.txt with a .out beside it is fed to the program; what it
+The last argument is the folder if it names one, else the folder is examples/.
+Every .txt of the folder with a .out beside it is fed to the program; what it
 prints must be the .out, byte for byte, and it must end with status 0.
 Differences are reported line by line, and any makes the exit status 1.
 """
@@ -52,10 +55,13 @@ def check(command, example):
 
 
 def main():
-    command = sys.argv[1:] or MODEL
-    examples = [e for e in sorted(EXAMPLES.glob("*.txt")) if e.with_suffix(".out").exists()]
+    command, folder = sys.argv[1:], EXAMPLES
+    if command and Path(command[-1]).is_dir():
+        folder = Path(command.pop())
+    command = command or MODEL
+    examples = [e for e in sorted(folder.glob("*.txt")) if e.with_suffix(".out").exists()]
     if not examples:
-        print(f"no examples in {EXAMPLES}")
+        print(f"no examples in {folder}")
         return 1
     results = [check(command, example) for example in examples]
     return 0 if all(results) else 1

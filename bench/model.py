@@ -1,9 +1,12 @@
 #!/usr/bin/env python3
 """A second model of the PAC193X and PAC194X chips, of the wire to them, of the
-meter with its book and its bill, and of the line console.
+meter with its book and its bill, and of the two programs that read lines.
 
-It reads console lines on standard input and prints the answer expected to
-each.  It is written from the rules alone, apart from the real program, so
+    bench/model.py < FILE            the bench console
+    bench/model.py trailer < FILE    the crew's line program
+
+It reads a program's lines on standard input and prints the answer expected to
+each.  It is written from the rules alone, apart from the real programs, so
 that the two can be compared.  The rules stand beside the code that follows
 them.  Channels are numbered 0 to 3 here for the chip's channels 1 to 4.
 """
@@ -1021,11 +1024,47 @@ class Console:
         return self.scratch
 
 
+# ------------------------------------------------------- the line program
+
+
+class Trailer(Console):
+    """What the crew runs.  The first good kind line brings the meter too, and
+    it is never let go.  Of the console's lines the crew has seven, and no
+    other can be read."""
+
+    def __init__(self):
+        super().__init__()
+        self.raw_words = {}
+        words = ("cycle", "setup", "draw", "book", "writeoff", "bill", "fault")
+        self.meter_words = {word: self.meter_words[word] for word in words}
+
+    def kind(self, fields):
+        numbers = super().kind(fields)
+        self.make_meter()
+        return numbers
+
+    def act(self, word, fields):
+        """A refused line prints its word and number, and nothing that the
+        refusal names."""
+        number, *rest = super().act(word, fields)
+        return [number, *rest] if number == TAKEN else [number]
+
+
+PROGRAMS = {"console": Console, "trailer": Trailer}
+
+
+def answers(program, data):
+    """What the program prints when it reads these bytes."""
+    printed = [program.answer(line) for line in split_lines(data[:LONGEST_INPUT])]
+    program.end()
+    return "".join(line + "\n" for line in printed)
+
+
 def main():
-    console = Console()
-    for line in split_lines(sys.stdin.buffer.read(LONGEST_INPUT)):
-        print(console.answer(line))
-    console.end()
+    name = sys.argv[1] if len(sys.argv) > 1 else "console"
+    if len(sys.argv) > 2 or name not in PROGRAMS:
+        sys.exit(f"usage: model.py [{'|'.join(PROGRAMS)}] < FILE")
+    print(answers(PROGRAMS[name](), sys.stdin.buffer.read(LONGEST_INPUT)), end="")
 
 
 if __name__ == "__main__":

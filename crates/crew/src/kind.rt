@@ -1,0 +1,31 @@
+//! The line that says which chip there is.
+
+use chip::refusal::Refusal;
+use lines::line;
+use lines::line::Line;
+
+/// The kinds of chip.
+#[derive(Clone, Copy, Debug, PartialEq, Eq)]
+pub enum Kind {
+    Pac193x,
+    Pac194x,
+}
+
+impl TryFrom<&Line<'_>> for Kind {
+    type Error = Refusal;
+
+    fn try_from(line: &Line) -> Result<Kind, Refusal> {
+        match (line.word.text, line.fields.as_slice()) {
+            (b"kind", [193]) => Ok(Kind::Pac193x),
+            (b"kind", [194]) => Ok(Kind::Pac194x),
+            _ => Err(Refusal::Unreadable),
+        }
+    }
+}
+
+impl Kind {
+    /// The kind that a line names, read from its bytes.
+    pub fn read(line: &[u8]) -> Result<Kind, Refusal> {
+        Kind::try_from(&line::parse(line)?)
+    }
+}

@@ -1,0 +1,38 @@
+//! What a request does at a desk.
+
+use crate::reply::Shown;
+use crate::request::Request;
+use chip::refusal::Refusal;
+use desk::desk::Desk;
+use wire::wire::Wire;
+
+// What is asked is done, or refused. A number above a byte is outside its limits.
+pub(super) fn obey<W: Wire>(desk: &mut Desk<W>, request: Request) -> Result<Shown, Refusal> {
+    match request {
+        Request::Cycle(codes) => {
+            desk.cycle(codes);
+            Ok(Shown::Nothing)
+        }
+        Request::SetUp { rate, off, two_way } => {
+            desk.set_up(
+                u8::try_from(rate)?,
+                u8::try_from(off)?,
+                u8::try_from(two_way)?,
+            )?;
+            Ok(Shown::Nothing)
+        }
+        Request::Draw => Ok(Shown::Draw(desk.draw()?)),
+        Request::Book => Ok(Shown::Entry(desk.book()?)),
+        Request::WriteOff => {
+            desk.write_off()?;
+            Ok(Shown::Nothing)
+        }
+        Request::Bill { channel, shunt } => {
+            Ok(Shown::Bill(desk.bill(u8::try_from(channel)?, shunt)?))
+        }
+        Request::Fault(outcome) => {
+            desk.add(u8::try_from(outcome)?)?;
+            Ok(Shown::Nothing)
+        }
+    }
+}

@@ -1,0 +1,64 @@
+//! What a line asks of the meter.
+
+use chip::refusal::Refusal;
+use chip::state::Codes;
+use lines::line;
+use lines::line::Line;
+
+/// A field that is to be a byte stays as it was read: where it is none, the line is readable, and what it asks is refused.
+#[derive(Clone, Copy)]
+pub enum Request {
+    /// a conversion cycle: bus and sense code of each channel
+    Cycle([Codes; 4]),
+    /// settings that the next draw is to put in force
+    SetUp { rate: u16, off: u16, two_way: u16 },
+    Draw,
+    /// books the slip in hand
+    Book,
+    /// writes the slip in hand off
+    WriteOff,
+    /// bills the book: a channel, 1 on, over a shunt in tenths of a milliohm
+    Bill { channel: u16, shunt: u16 },
+    /// an outcome for a later transaction
+    Fault(u16),
+}
+
+impl TryFrom<&Line<'_>> for Request {
+    type Error = Refusal;
+
+    fn try_from(line: &Line) -> Result<Request, Refusal> {
+        match (line.word.text, line.fields.as_slice()) {
+            (b"cycle", [v1, s1, v2, s2, v3, s3, v4, s4]) => Ok(Request::Cycle([
+                codes(*v1, *s1),
+                codes(*v2, *s2),
+                codes(*v3, *s3),
+                codes(*v4, *s4),
+            ])),
+            (b"setup", [rate, off, two_way]) => Ok(Request::SetUp {
+                rate: *rate,
+                off: *off,
+                two_way: *two_way,
+            }),
+            (b"draw", []) => Ok(Request::Draw),
+            (b"book", []) => Ok(Request::Book),
+            (b"writeoff", []) => Ok(Request::WriteOff),
+            (b"bill", [channel, shunt]) => Ok(Request::Bill {
+                channel: *channel,
+                shunt: *shunt,
+            }),
+            (b"fault", [outcome]) => Ok(Request::Fault(*outcome)),
+            _ => Err(Refusal::Unreadable),
+        }
+    }
+}
+
+fn codes(bus: u16, sense: u16) -> Codes {
+    Codes { bus, sense }
+}
+
+impl Request {
+    /// What a line asks, read from its bytes.
+    pub fn read(line: &[u8]) -> Result<Request, Refusal> {
+        Request::try_from(&line::parse(line)?)
+    }
+}

@@ -1,0 +1,32 @@
+//! A transcript: what is read, and what is to be printed.
+
+use std::alloc::Global;
+use std::io::Read;
+use std::rt::Files;
+use std::{fs, io};
+
+// The program reads the first 64 KiB of its input.
+const LIMIT: u64 = 65536;
+
+#[derive(Drop)]
+pub(crate) struct Transcript {
+    pub(crate) input: Vec<u8>,
+    pub(crate) expected: String,
+}
+
+impl Transcript {
+    // From the two files of that name.
+    pub(crate) fn open<R: Files + AllocGlobal>(rt: &R, name: &str) -> io::Result<Transcript> {
+        let alloc: Global = rt.alloc();
+        let mut input = Vec::new(alloc);
+        let lines = format!(in alloc; "{name}.txt")?;
+        fs::open(rt, lines.as_str())?
+            .take(LIMIT)
+            .read_to_end(&mut input)?;
+        let expected = format!(in alloc; "{name}.out")?;
+        Ok(Transcript {
+            input,
+            expected: fs::read_to_string(rt, expected.as_str())?,
+        })
+    }
+}
