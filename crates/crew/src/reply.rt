@@ -1,6 +1,7 @@
 //! What is printed for a line.
 ghost use Rattle.std.specs.Prelude.{◌≡◌, Some};
 ghost use Rattle.std.specs.Fmt.{DisplaysOnOk};
+ghost use Rattle.crew.specs.Obeyed.{word_of};
 ghost use Rattle.crew.specs.Prints.{entry_fields, fields_of, printed, stretch_fields, sum_fields, text_of};
 
 use super::request::Request;
@@ -43,7 +44,9 @@ pub struct Reply {
 
 impl Word {
     /// The word of the lines that ask this.
-    pub fn of(request: &Request) -> Word {
+    pub fn of(request: &Request) -> Word
+        ensures { result ≡ word_of request.now }
+    {
         match request {
             Request::Cycle(_) => Word::Cycle,
             Request::SetUp { .. } => Word::SetUp,
