@@ -1,4 +1,7 @@
 //! The line that says which chip there is.
+ghost use Rattle.std.specs.Prelude.{◌≡◌};
+ghost use Rattle.crew.specs.Asks.{kind_asked, kind_of, or_unreadable};
+ghost use Rattle.lines.specs.Numbers.{items};
 
 use chip::refusal::Refusal;
 use lines::line;
@@ -14,6 +17,8 @@ pub enum Kind {
 impl TryFrom<&Line<'_>> for Kind {
     type Error = Refusal;
 
+    ghost try_from_gives = { λ line kind. kind ≡ or_unreadable (kind_of line.now.word.text.now (items line.now.fields)) };
+
     fn try_from(line: &Line) -> Result<Kind, Refusal> {
         match (line.word.text, line.fields.as_slice()) {
             (b"kind", [193]) => Ok(Kind::Pac193x),
@@ -25,7 +30,9 @@ impl TryFrom<&Line<'_>> for Kind {
 
 impl Kind {
     /// The kind that a line names, read from its bytes.
-    pub fn read(line: &[u8]) -> Result<Kind, Refusal> {
+    pub fn read(line: &[u8]) -> Result<Kind, Refusal>
+        ensures { result ≡ or_unreadable (kind_asked line.now) }
+    {
         Kind::try_from(&line::parse(line)?)
     }
 }

@@ -1,4 +1,8 @@
 //! What is printed for a line.
+ghost use Rattle.std.specs.Prelude.{◌≡◌, Some};
+ghost use Rattle.std.specs.Fmt.{DisplaysOnOk};
+ghost use Rattle.crew.specs.Obeyed.{word_of};
+ghost use Rattle.crew.specs.Prints.{entry_fields, fields_of, printed, stretch_fields, sum_fields, text_of};
 
 use super::request::Request;
 use book::bill::Bill;
@@ -40,7 +44,9 @@ pub struct Reply {
 
 impl Word {
     /// The word of the lines that ask this.
-    pub fn of(request: &Request) -> Word {
+    pub fn of(request: &Request) -> Word
+        ensures { result ≡ word_of request.now }
+    {
         match request {
             Request::Cycle(_) => Word::Cycle,
             Request::SetUp { .. } => Word::SetUp,
@@ -52,7 +58,9 @@ impl Word {
         }
     }
 
-    fn text(self) -> &'static str {
+    fn text(self) -> &'static str
+        ensures { result.now ≡ text_of self }
+    {
         match self {
             Word::Line => "line",
             Word::Kind => "kind",
@@ -81,7 +89,10 @@ impl Reply {
     };
 }
 
-fn write_entry<W: fmt::Write>(f: &mut fmt::Formatter<W>, entry: &Entry) -> fmt::Result {
+// What an entry says beside its sums.
+fn write_stretch<W: fmt::Write>(f: &mut fmt::Formatter<W>, entry: &Entry) -> fmt::Result
+    ensures { DisplaysOnOk W.write_str_gives f.old result (Some (stretch_fields entry.now)) f.new }
+{
     let Entry {
         draw,
         spoilt,
@@ -89,14 +100,29 @@ fn write_entry<W: fmt::Write>(f: &mut fmt::Formatter<W>, entry: &Entry) -> fmt::
         rate,
         off,
         two_way,
-        sums: [sum1, sum2, sum3, sum4],
+        sums: _,
     } = *entry;
-    write!(f, ",{draw},{spoilt},{count},{rate},{off},{two_way}")?;
+    write!(f, ",{draw},{spoilt},{count},{rate},{off},{two_way}")
+}
+
+fn write_sums<W: fmt::Write>(f: &mut fmt::Formatter<W>, sums: &[i64; 4]) -> fmt::Result
+    ensures { DisplaysOnOk W.write_str_gives f.old result (Some (sum_fields sums.now)) f.new }
+{
+    let [sum1, sum2, sum3, sum4] = *sums;
     write!(f, ",{sum1},{sum2},{sum3},{sum4}")
+}
+
+fn write_entry<W: fmt::Write>(f: &mut fmt::Formatter<W>, entry: &Entry) -> fmt::Result
+    ensures { DisplaysOnOk W.write_str_gives f.old result (Some (entry_fields entry.now)) f.new }
+{
+    write_stretch(f, entry)?;
+    write_sums(f, &entry.sums)
 }
 
 // Each field after a comma.
 impl fmt::Display for Shown {
+    ghost output = { λ shown. Some (fields_of shown) };
+
     fn fmt<W: fmt::Write>(&self, f: &mut fmt::Formatter<W>) -> fmt::Result {
         match self {
             Shown::Nothing => Ok(()),
@@ -116,6 +142,8 @@ impl fmt::Display for Shown {
 
 // The word, and 0 and what is shown, or the refusal's number.
 impl fmt::Display for Reply {
+    ghost output = { λ reply. Some (printed reply) };
+
     fn fmt<W: fmt::Write>(&self, f: &mut fmt::Formatter<W>) -> fmt::Result {
         let word = self.word.text();
         match self.outcome {

@@ -1,4 +1,7 @@
 //! What a line asks of the meter.
+ghost use Rattle.std.specs.Prelude.{◌≡◌};
+ghost use Rattle.crew.specs.Asks.{asked, or_unreadable, request_of};
+ghost use Rattle.lines.specs.Numbers.{items};
 
 use chip::refusal::Refusal;
 use chip::state::Codes;
@@ -26,6 +29,8 @@ pub enum Request {
 impl TryFrom<&Line<'_>> for Request {
     type Error = Refusal;
 
+    ghost try_from_gives = { λ line request. request ≡ or_unreadable (request_of line.now.word.text.now (items line.now.fields)) };
+
     fn try_from(line: &Line) -> Result<Request, Refusal> {
         match (line.word.text, line.fields.as_slice()) {
             (b"cycle", [v1, s1, v2, s2, v3, s3, v4, s4]) => Ok(Request::Cycle([
@@ -52,13 +57,17 @@ impl TryFrom<&Line<'_>> for Request {
     }
 }
 
-fn codes(bus: u16, sense: u16) -> Codes {
+fn codes(bus: u16, sense: u16) -> Codes
+    ensures { result ≡ record { bus = bus; sense = sense } }
+{
     Codes { bus, sense }
 }
 
 impl Request {
     /// What a line asks, read from its bytes.
-    pub fn read(line: &[u8]) -> Result<Request, Refusal> {
+    pub fn read(line: &[u8]) -> Result<Request, Refusal>
+        ensures { result ≡ or_unreadable (asked line.now) }
+    {
         Request::try_from(&line::parse(line)?)
     }
 }

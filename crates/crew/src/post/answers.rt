@@ -1,4 +1,12 @@
 //! A post's beginning, the answer to a line, and its end.
+ghost use Rattle.std.specs.Prelude.{◌≡◌};
+ghost use Rattle.chip.specs.Chip.{fresh_chip};
+ghost use Rattle.crew.specs.Asks.{asked};
+ghost use Rattle.crew.specs.Obeyed.{Answered};
+ghost use Rattle.crew.specs.Runs.{OnRun, chip_at, goes_to, passes_to};
+ghost use Rattle.desk.specs.Promises.{DeskOpened, Ended};
+ghost use Rattle.desk.specs.Standing.{hand_of, standing};
+ghost use Rattle.meter.specs.Views.{meter_of};
 
 use super::requests;
 use super::{PLACES, Post};
@@ -13,14 +21,20 @@ use wire::scripted::Scripted;
 
 impl<'a, M: Make> Post<'a, M> {
     /// At a fresh chip, with an empty book of the lent places.
-    pub fn new(places: &'a mut [Entry; PLACES]) -> Post<'a, M> {
+    pub fn new(places: &'a mut [Entry; PLACES]) -> Post<'a, M>
+        ensures statements { ∥ OnRun M.Make.sheet chip_at (standing result.desk) ∥₁ }
+    {
         Post {
             desk: Desk::new(Scripted::new(Direct::new()), places),
         }
     }
 
     /// The answer to a line, whatever its bytes are.
-    pub fn answer(&mut self, line: &[u8]) -> Reply {
+    pub fn answer(&mut self, line: &[u8]) -> Reply
+        ensures answered { Answered M.Make.sheet chip_at (goes_to M.Make.sheet) (passes_to M.Make.sheet) (asked line.now) (standing self.old.desk) result (standing self.new.desk) }
+        ensures statements { ∥ OnRun M.Make.sheet chip_at (standing self.new.desk) ∥₁ }
+        ensures same { self.new.desk.book.places.ghost_name ≡ self.old.desk.book.places.ghost_name }
+    {
         match Request::read(line) {
             Ok(request) => Reply {
                 word: Word::of(&request),
@@ -31,7 +45,11 @@ impl<'a, M: Make> Post<'a, M> {
     }
 
     /// Gives the wire and the book back. A slip in hand is written off first.
-    pub fn end(self) -> (Scripted<Direct<M>>, Book<'a>) {
+    pub fn end(self) -> (Scripted<Direct<M>>, Book<'a>)
+        ensures written_off { Ended M.Make.sheet chip_at (goes_to M.Make.sheet) (hand_of self.entry.desk.slip) (meter_of self.entry.desk.meter) self.entry.desk.meter.wire result.0 }
+        ensures wire { result.0 ≡ self.entry.desk.meter.wire }
+        ensures book { result.1 ≡ self.entry.desk.book }
+    {
         let Post { desk } = self;
         desk.end()
     }

@@ -1,4 +1,7 @@
 //! What a request does at a desk.
+ghost use Rattle.std.specs.Prelude.{◌≡◌};
+ghost use Rattle.crew.specs.Obeyed.{Obeyed};
+ghost use Rattle.desk.specs.Standing.{standing};
 
 use crate::reply::Shown;
 use crate::request::Request;
@@ -7,7 +10,10 @@ use desk::desk::Desk;
 use wire::wire::Wire;
 
 // What is asked is done, or refused. A number above a byte is outside its limits.
-pub(super) fn obey<W: Wire>(desk: &mut Desk<W>, request: Request) -> Result<Shown, Refusal> {
+pub(super) fn obey<W: Wire>(desk: &mut Desk<W>, request: Request) -> Result<Shown, Refusal>
+    ensures obeyed { Obeyed W.Make.Make.sheet W.Wire.chip W.Wire.goes W.Wire.passes request (standing desk.old) result (standing desk.new) }
+    ensures same { desk.new.book.places.ghost_name ≡ desk.old.book.places.ghost_name }
+{
     match request {
         Request::Cycle(codes) => {
             desk.cycle(codes);

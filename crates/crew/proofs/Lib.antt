@@ -1,0 +1,4 @@
+pub mod Words
+pub mod Prints
+pub mod Readings
+pub mod Runs

@@ -1,0 +1,34 @@
+use Rattle.std.proofs.Common.{◌≡◌, Some, None, Ok, Err, Option, sym, subst, refl, ◌∙◌}
+use Rattle.std.proofs.Math.Logic.{∥∥₁_map}
+use Rattle.crew.proofs.Readings.{read_none, read_some}
+use Rattle.crew.proofs.Runs.{obeyed_runs}
+use Rattle.crew.proofs.post.Post.answer.Goals as goal
+use Rattle.crew.specs.Asks.{asked}
+use Rattle.crew.specs.Obeyed.{Answered, unreadable}
+use Rattle.crew.specs.Runs.{chip_at, goes_to, passes_to}
+use Rattle.crew.specs.declared.request.Request.{Request}
+use Rattle.desk.specs.Standing.{standing}
+
+pub invariant_of-self : goal.invariant_of-self
+invariant_of-self g c =
+    let m = g.M.Make.sheet in
+    record {
+      run = ∥∥₁_map c.args.self.now.run
+          (obeyed_runs m chip_at (goes_to m) (passes_to m) c.in-Ok.request (standing c.args.self.now.desk) c.obey.result (standing c.obey.new.desk) c.obey.ensures.obeyed);
+    }
+
+pub returns-in-Ok-clause-answered : goal.returns-in-Ok-clause-answered
+returns-in-Ok-clause-answered g c =
+    let m = g.M.Make.sheet in
+    let some : asked c.args.line.now ≡ Some c.in-Ok.request = read_some _ _ (sym c.read.ensures ∙ c.in-Ok.is) in
+    subst
+    (λ (o : Option Request). Answered m chip_at (goes_to m) (passes_to m) o (standing c.args.self.now.desk) (record { word = c.of.result; outcome = c.obey.result })
+    (standing c.obey.new.desk))
+    (sym some) (c.of.ensures, c.obey.ensures.obeyed)
+
+pub returns-in-Err-clause-answered : goal.returns-in-Err-clause-answered
+returns-in-Err-clause-answered g c =
+    let m = g.M.Make.sheet in
+    let none : asked c.args.line.now ≡ None = read_none _ _ (sym c.read.ensures ∙ c.in-Err.is) in
+    subst (λ (o : Option Request). Answered m chip_at (goes_to m) (passes_to m) o (standing c.args.self.now.desk) unreadable (standing c.args.self.now.desk)) (sym none)
+    (refl, refl)

@@ -1,0 +1,4 @@
+pub mod Asks
+pub mod Prints
+pub mod Obeyed
+pub mod Runs

@@ -1,0 +1,30 @@
+-- The statements about runs, at a desk.
+use Rattle.std.specs.Prelude.{◌≡◌, ℕ, ◌≤◌, length}
+use Rattle.account.specs.History.{History, Reached}
+use Rattle.account.specs.Statements.{Statements}
+use Rattle.book.specs.Book.{entries}
+use Rattle.chip.specs.Datasheet.{Datasheet}
+use Rattle.chip.specs.declared.state.State.{State}
+use Rattle.desk.specs.Standing.{Standing}
+use Rattle.wire.specs.Direct.{DirectGoes, DirectPasses}
+use Rattle.wire.specs.Wire.{Goes, Passes}
+use Rattle.wire.specs.declared.direct.Direct.{Direct}
+
+-- a history of cycles and calls, from a fresh chip and an empty book of 64 places on, led meter 1, its chip and its book to where they
+-- stand, and all statements hold of them
+pub record OnRun (m : Datasheet) {W : Type 0} (chip_of : W → State) (d : Standing W) : Type 0 where
+  pub places : length d.book.places ≡ 64
+  pub filled : d.book.filled ≤ 64
+  pub history : History
+  pub reached : Reached m 64 1 0 d.meter (chip_of d.wire.below) (entries d.book) history
+  pub statements : Statements m 64 1 0 d.meter (chip_of d.wire.below) (entries d.book) history
+
+-- the chip at a direct wire, and how that takes a request and a cycle
+abbrev pub chip_at : {M : Type 0} → Direct M → State
+chip_at w = w.chip.state
+
+abbrev pub goes_to : Datasheet → {M : Type 0} → Goes (Direct M)
+goes_to m u q b r w = DirectGoes m (chip_at u) q b r (chip_at w)
+
+abbrev pub passes_to : Datasheet → {M : Type 0} → Passes (Direct M)
+passes_to m u ks w = DirectPasses m (chip_at u) ks (chip_at w)
