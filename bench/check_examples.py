@@ -1,10 +1,10 @@
 #!/usr/bin/env python3
 """Compare a program that reads lines with examples.
 
-    bench/check_examples.py                                      the model's console
-    bench/check_examples.py ./run console                        the command given
-    bench/check_examples.py ./run trailer examples/trailer       on another folder
+    bench/check_examples.py ./run trailer                        the command given, on examples/
+    bench/check_examples.py ./run console examples/console       on another folder
     bench/check_examples.py bench/model.py trailer crates/trials/data
+    bench/check_examples.py                                      the model of the line program
 
 The last argument is the folder if it names one, else the folder is examples/.
 Every .txt of the folder with a .out beside it is fed to the program; what it
@@ -19,7 +19,7 @@ from pathlib import Path
 
 BENCH = Path(__file__).resolve().parent
 EXAMPLES = BENCH.parent / "examples"
-MODEL = [sys.executable, str(BENCH / "model.py")]
+MODEL = [sys.executable, str(BENCH / "model.py"), "trailer"]
 SHOWN = 10  # differences printed for each example
 
 
