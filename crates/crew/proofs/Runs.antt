@@ -1,21 +1,20 @@
 -- Every line leaves the desk on a run, and so does its beginning.
-use Rattle.std.proofs.Common.{◌≡◌, ℕ, ◌+◌, ◌^◌, ◌<◌, ◌≤◌, Bool, true, false, List, [], ◌∷◌, ◌++◌, length, Some, None, Ok, Err, Option, Result, refl, sym, subst, ap, ◌∙◌, arith, lit<}
-use Rattle.std.proofs.Math.ListN.{length-set, set, take}
+use Rattle.std.proofs.Common.{◌≡◌, ℕ, ◌^◌, ◌<◌, ◌≤◌, Bool, true, false, List, [], ◌∷◌, length, Some, None, Ok, Err, Option, Result, refl, sym, subst, ap, ◌∙◌, arith, lit<}
+use Rattle.std.proofs.Math.ListN.{length-set}
 use Rattle.std.proofs.lemmas.List.{length-append, length-take-le}
 use Rattle.account.specs.Book.{book_after}
-use Rattle.account.specs.Calls.{MadeBookCall, MadeCall}
 use Rattle.account.specs.Dialogue.{Call, book}
 use Rattle.account.specs.Dialogue as machine
 use Rattle.account.specs.History.{History, Reached, carried_in, entries_after, happened_after}
 use Rattle.account.specs.Statements.{Statements}
-use Rattle.book.specs.Book.{Pages, entries, put}
+use Rattle.book.specs.Book.{Pages, entries}
 use Rattle.chip.specs.Chip.{fresh_chip}
 use Rattle.chip.specs.Datasheet.{Datasheet}
 use Rattle.chip.specs.declared.entry.Entry.{Entry}
 use Rattle.chip.specs.declared.refusal.Refusal.{Refusal}
 use Rattle.chip.specs.declared.state.Codes.{Codes}
 use Rattle.chip.specs.declared.state.State.{State}
-use Rattle.crew.specs.Obeyed.{IfBytes, Made, Obeyed, Refused, bytes}
+use Rattle.crew.specs.Obeyed.{IfBytes, Obeyed, bytes}
 use Rattle.crew.specs.Runs.{OnRun}
 use Rattle.crew.specs.declared.reply.Shown.{Shown}
 use Rattle.crew.specs.declared.request.Request.{Request}

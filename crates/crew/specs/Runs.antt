@@ -1,12 +1,16 @@
 -- The statements about runs, at a desk.
-use Rattle.std.specs.Prelude.{◌≡◌, ℕ, ◌≤◌, length}
+use Rattle.std.specs.Prelude.{◌≡◌, ◌≤◌, List, length}
 use Rattle.account.specs.History.{History, Reached}
 use Rattle.account.specs.Statements.{Statements}
 use Rattle.book.specs.Book.{entries}
+use Rattle.chip.specs.Chip.{fresh_chip}
 use Rattle.chip.specs.Datasheet.{Datasheet}
+use Rattle.chip.specs.declared.entry.Entry.{Entry}
 use Rattle.chip.specs.declared.state.State.{State}
+use Rattle.desk.specs.Promises.{DeskOpened}
 use Rattle.desk.specs.Standing.{Standing}
 use Rattle.wire.specs.Direct.{DirectGoes, DirectPasses}
+use Rattle.wire.specs.Scripted.{seen, unplayed}
 use Rattle.wire.specs.Wire.{Goes, Passes}
 use Rattle.wire.specs.declared.direct.Direct.{Direct}
 
@@ -28,3 +32,9 @@ goes_to m u q b r w = DirectGoes m (chip_at u) q b r (chip_at w)
 
 abbrev pub passes_to : Datasheet → {M : Type 0} → Passes (Direct M)
 passes_to m u ks w = DirectPasses m (chip_at u) ks (chip_at w)
+
+-- a new post: an empty book of the lent places, nothing in hand, a fresh chip, and no outcome added
+pub record PostOpened (m : Datasheet) {M : Type 0} (places : List Entry) (d : Standing (Direct M)) : Type 0 where
+  pub desk : DeskOpened m chip_at d.wire places d
+  pub chip : chip_at d.wire.below ≡ fresh_chip m
+  pub script : seen d.wire ≡ unplayed d.wire.below

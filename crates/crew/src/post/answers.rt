@@ -1,15 +1,13 @@
 //! A post's beginning, the answer to a line, and its end.
 ghost use Rattle.std.specs.Prelude.{◌≡◌};
-ghost use Rattle.chip.specs.Chip.{fresh_chip};
 ghost use Rattle.crew.specs.Asks.{asked};
 ghost use Rattle.crew.specs.Obeyed.{Answered};
-ghost use Rattle.crew.specs.Runs.{OnRun, chip_at, goes_to, passes_to};
-ghost use Rattle.desk.specs.Promises.{DeskOpened, Ended};
+ghost use Rattle.crew.specs.Runs.{OnRun, PostOpened, chip_at, goes_to, passes_to};
+ghost use Rattle.desk.specs.Promises.{Ended};
 ghost use Rattle.desk.specs.Standing.{hand_of, standing};
 ghost use Rattle.meter.specs.Views.{meter_of};
 
-use super::requests;
-use super::{PLACES, Post};
+use super::{PLACES, Post, requests};
 use crate::reply::{Reply, Word};
 use crate::request::Request;
 use book::book::Book;
@@ -22,6 +20,7 @@ use wire::scripted::Scripted;
 impl<'a, M: Make> Post<'a, M> {
     /// At a fresh chip, with an empty book of the lent places.
     pub fn new(places: &'a mut [Entry; PLACES]) -> Post<'a, M>
+        ensures opened { PostOpened M.Make.sheet places.entry.now (standing result.desk) }
         ensures statements { ∥ OnRun M.Make.sheet chip_at (standing result.desk) ∥₁ }
     {
         Post {
