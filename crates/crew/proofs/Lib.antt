@@ -1,4 +1,5 @@
-pub mod Words
+pub mod Histories
 pub mod Prints
 pub mod Readings
 pub mod Runs
+pub mod Words

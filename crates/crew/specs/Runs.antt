@@ -1,23 +1,40 @@
 -- The statements about runs, at a desk.
-use Rattle.std.specs.Prelude.{◌≡◌, ℕ, ◌≤◌, length}
+use Rattle.std.specs.Prelude.{◌≡◌, ◌≤◌, List, ◌++◌, length}
 use Rattle.account.specs.History.{History, Reached}
 use Rattle.account.specs.Statements.{Statements}
 use Rattle.book.specs.Book.{entries}
+use Rattle.chip.specs.Chip.{fresh_chip}
 use Rattle.chip.specs.Datasheet.{Datasheet}
+use Rattle.chip.specs.declared.entry.Entry.{Entry}
 use Rattle.chip.specs.declared.state.State.{State}
+use Rattle.desk.specs.Promises.{DeskOpened}
 use Rattle.desk.specs.Standing.{Standing}
 use Rattle.wire.specs.Direct.{DirectGoes, DirectPasses}
+use Rattle.wire.specs.Scripted.{seen, unplayed}
 use Rattle.wire.specs.Wire.{Goes, Passes}
 use Rattle.wire.specs.declared.direct.Direct.{Direct}
 
--- a history of cycles and calls, from a fresh chip and an empty book of 64 places on, led meter 1, its chip and its book to where they
--- stand, and all statements hold of them
-pub record OnRun (m : Datasheet) {W : Type 0} (chip_of : W → State) (d : Standing W) : Type 0 where
+-- a book of 64 places, no more filled than there are
+pub record HasRoom {W : Type 0} (d : Standing W) : Type 0 where
   pub places : length d.book.places ≡ 64
   pub filled : d.book.filled ≤ 64
-  pub history : History
-  pub reached : Reached m 64 1 0 d.meter (chip_of d.wire.below) (entries d.book) history
-  pub statements : Statements m 64 1 0 d.meter (chip_of d.wire.below) (entries d.book) history
+
+module _ (m : Datasheet) {W : Type 0} (chip_of : W → State) where
+  -- this history of cycles and calls, from a fresh chip and an empty book of 64 places on, led meter 1, its chip and its book to where they
+  -- stand, and all statements hold of them
+  pub record LedBy (d : Standing W) (h : History) : Type 0 where
+    pub reached : Reached m 64 1 0 d.meter (chip_of d.wire.below) (entries d.book) h
+    pub statements : Statements m 64 1 0 d.meter (chip_of d.wire.below) (entries d.book) h
+
+  -- some history did
+  pub record OnRun (d : Standing W) : Type 0 where
+    pub room : HasRoom d
+    pub history : History
+    pub led : LedBy d history
+
+  -- whatever history led to d, one that goes on from it led to d'; the newest stands first
+  pub record GoesOn (d d' : Standing W) : Type 0 where
+    pub on : (h : History) → LedBy d h → (since : History) × LedBy d' (since ++ h)
 
 -- the chip at a direct wire, and how that takes a request and a cycle
 abbrev pub chip_at : {M : Type 0} → Direct M → State
@@ -28,3 +45,9 @@ goes_to m u q b r w = DirectGoes m (chip_at u) q b r (chip_at w)
 
 abbrev pub passes_to : Datasheet → {M : Type 0} → Passes (Direct M)
 passes_to m u ks w = DirectPasses m (chip_at u) ks (chip_at w)
+
+-- a new post: an empty book of the lent places, nothing in hand, a fresh chip, and no outcome added
+pub record PostOpened (m : Datasheet) {M : Type 0} (places : List Entry) (d : Standing (Direct M)) : Type 0 where
+  pub desk : DeskOpened m chip_at d.wire places d
+  pub chip : chip_at d.wire.below ≡ fresh_chip m
+  pub script : seen d.wire ≡ unplayed d.wire.below

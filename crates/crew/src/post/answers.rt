@@ -1,15 +1,13 @@
 //! A post's beginning, the answer to a line, and its end.
 ghost use Rattle.std.specs.Prelude.{◌≡◌};
-ghost use Rattle.chip.specs.Chip.{fresh_chip};
 ghost use Rattle.crew.specs.Asks.{asked};
 ghost use Rattle.crew.specs.Obeyed.{Answered};
-ghost use Rattle.crew.specs.Runs.{OnRun, chip_at, goes_to, passes_to};
-ghost use Rattle.desk.specs.Promises.{DeskOpened, Ended};
+ghost use Rattle.crew.specs.Runs.{GoesOn, OnRun, PostOpened, chip_at, goes_to, passes_to};
+ghost use Rattle.desk.specs.Promises.{Ended};
 ghost use Rattle.desk.specs.Standing.{hand_of, standing};
 ghost use Rattle.meter.specs.Views.{meter_of};
 
-use super::requests;
-use super::{PLACES, Post};
+use super::{PLACES, Post, requests};
 use crate::reply::{Reply, Word};
 use crate::request::Request;
 use book::book::Book;
@@ -22,6 +20,7 @@ use wire::scripted::Scripted;
 impl<'a, M: Make> Post<'a, M> {
     /// At a fresh chip, with an empty book of the lent places.
     pub fn new(places: &'a mut [Entry; PLACES]) -> Post<'a, M>
+        ensures opened { PostOpened M.Make.sheet places.entry.now (standing result.desk) }
         ensures statements { ∥ OnRun M.Make.sheet chip_at (standing result.desk) ∥₁ }
     {
         Post {
@@ -33,6 +32,7 @@ impl<'a, M: Make> Post<'a, M> {
     pub fn answer(&mut self, line: &[u8]) -> Reply
         ensures answered { Answered M.Make.sheet chip_at (goes_to M.Make.sheet) (passes_to M.Make.sheet) (asked line.now) (standing self.old.desk) result (standing self.new.desk) }
         ensures statements { ∥ OnRun M.Make.sheet chip_at (standing self.new.desk) ∥₁ }
+        ensures goes_on { GoesOn M.Make.sheet chip_at (standing self.old.desk) (standing self.new.desk) }
         ensures same { self.new.desk.book.places.ghost_name ≡ self.old.desk.book.places.ghost_name }
     {
         match Request::read(line) {

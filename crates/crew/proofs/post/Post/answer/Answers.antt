@@ -1,20 +1,23 @@
-use Rattle.std.proofs.Common.{◌≡◌, Some, None, Ok, Err, Option, sym, subst, refl, ◌∙◌}
-use Rattle.std.proofs.Math.Logic.{∥∥₁_map}
+use Rattle.std.proofs.Common.{[], ◌≡◌, Some, None, Option, sym, subst, refl, ◌∙◌}
+use Rattle.std.proofs.Math.Logic.{∥∥₁_elim, ∥∥₁_map}
+use Rattle.std.proofs.Props.{props}
 use Rattle.crew.proofs.Readings.{read_none, read_some}
-use Rattle.crew.proofs.Runs.{obeyed_runs}
+use Rattle.crew.proofs.Runs.{goes_onward, still_on}
 use Rattle.crew.proofs.post.Post.answer.Goals as goal
 use Rattle.crew.specs.Asks.{asked}
 use Rattle.crew.specs.Obeyed.{Answered, unreadable}
-use Rattle.crew.specs.Runs.{chip_at, goes_to, passes_to}
+use Rattle.crew.specs.Runs.{HasRoom, OnRun, chip_at, goes_to, passes_to}
 use Rattle.crew.specs.declared.request.Request.{Request}
 use Rattle.desk.specs.Standing.{standing}
 
 pub invariant_of-self : goal.invariant_of-self
 invariant_of-self g c =
     let m = g.M.Make.sheet in
+    let d = standing c.args.self.now.desk in
+    let d' = standing c.obey.new.desk in
     record {
       run = ∥∥₁_map c.args.self.now.run
-          (obeyed_runs m chip_at (goes_to m) (passes_to m) c.in-Ok.request (standing c.args.self.now.desk) c.obey.result (standing c.obey.new.desk) c.obey.ensures.obeyed);
+          (λ o. still_on m chip_at d d' o (goes_onward m chip_at (goes_to m) (passes_to m) c.in-Ok.request d c.obey.result d' c.obey.ensures.obeyed o));
     }
 
 pub returns-in-Ok-clause-answered : goal.returns-in-Ok-clause-answered
@@ -32,3 +35,18 @@ returns-in-Err-clause-answered g c =
     let none : asked c.args.line.now ≡ None = read_none _ _ (sym c.read.ensures ∙ c.in-Err.is) in
     subst (λ (o : Option Request). Answered m chip_at (goes_to m) (passes_to m) o (standing c.args.self.now.desk) unreadable (standing c.args.self.now.desk)) (sym none)
     (refl, refl)
+
+pub returns-in-Ok-clause-goes_on : goal.returns-in-Ok-clause-goes_on
+returns-in-Ok-clause-goes_on g c =
+    let m = g.M.Make.sheet in
+    let d = standing c.args.self.now.desk in
+    let d' = standing c.obey.new.desk in
+    let room : HasRoom d = ∥∥₁_elim c.args.self.now.run (hlevel props) (λ o. o.room) in
+    record {
+      on = λ h l.
+          let o : OnRun m chip_at d = record { room = room; history = h; led = l } in
+          (goes_onward m chip_at (goes_to m) (passes_to m) c.in-Ok.request d c.obey.result d' c.obey.ensures.obeyed o).on.on h l;
+    }
+
+pub returns-in-Err-clause-goes_on : goal.returns-in-Err-clause-goes_on
+returns-in-Err-clause-goes_on g c = record { on = λ h l. ([], l) }

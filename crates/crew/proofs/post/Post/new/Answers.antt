@@ -1,4 +1,4 @@
-use Rattle.std.proofs.Common.{rules, ◌≡◌, length, ap, ◌∙◌}
+use Rattle.std.proofs.Common.{rules, ap, ◌∙◌}
 use Rattle.crew.proofs.Runs.{begins}
 use Rattle.crew.proofs.post.Post.new.Goals as goal
 use Rattle.crew.specs.Runs.{chip_at}
