@@ -1,5 +1,6 @@
 -- Every line leaves the desk on a run, and so does its beginning.
-use Rattle.std.proofs.Common.{◌≡◌, ℕ, ◌^◌, ◌<◌, ◌≤◌, Bool, true, false, List, [], ◌∷◌, ◌++◌, length, Some, None, Ok, Err, Option, Result, refl, sym, subst, ap, ◌∙◌, arith, lit<}
+use Rattle.std.proofs.Common.{◌≡◌, ℕ, ◌^◌, ◌<◌, ◌≤◌, Bool, true, false, List, [], ◌∷◌, ◌++◌, length}
+use Rattle.std.proofs.Common.{Some, None, Ok, Err, Option, Result, refl, sym, subst, ap, ◌∙◌, arith, lit<}
 use Rattle.std.proofs.Math.ListN.{length-set}
 use Rattle.std.proofs.lemmas.List.{length-append, length-take-le}
 use Rattle.account.specs.Book.{book_after}
@@ -122,8 +123,10 @@ module _ (m : Datasheet) {W : Type 0} (chip_of : W → State) where
       booked_room : (h : History) → LedBy m chip_of d h → HasRoom d'
       booked_room h l =
           let after : d'.book ≡ book_after (book_answer r) d.book = s.made.the_book in
-          let same : entries (book_after (book_answer r) d.book) ≡ entries_after (book_answer r) (entries d.book) = ap entries (sym after) ∙ (s.made.made few).made.the_book in
-          let room : length (entries (book_after (book_answer r) d.book)) ≤ 64 = subst (λ (b : Pages). length (entries b) ≤ 64) after (booked_on h l).statements.room in
+          let same : entries (book_after (book_answer r) d.book) ≡ entries_after (book_answer r) (entries d.book) =
+          ap entries (sym after) ∙ (s.made.made few).made.the_book in
+          let room : length (entries (book_after (book_answer r) d.book)) ≤ 64 =
+          subst (λ (b : Pages). length (entries b) ≤ 64) after (booked_on h l).statements.room in
           record {
             places = ap (λ (b : Pages). length b.places) after ∙ after_places r d.book ∙ o.places;
             filled = subst (λ (b : Pages). b.filled ≤ 64) (sym after) (after_filled r d.book o.places o.filled same room);

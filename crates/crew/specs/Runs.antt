@@ -1,5 +1,5 @@
 -- The statements about runs, at a desk.
-use Rattle.std.specs.Prelude.{◌≡◌, ◌≤◌, List, ◌++◌, length}
+use Rattle.std.specs.Prelude.{Option, ◌≡◌, ◌≤◌, List, ◌++◌, length}
 use Rattle.account.specs.History.{History, Reached}
 use Rattle.account.specs.Statements.{Statements}
 use Rattle.book.specs.Book.{entries}
@@ -7,12 +7,16 @@ use Rattle.chip.specs.Chip.{fresh_chip}
 use Rattle.chip.specs.Datasheet.{Datasheet}
 use Rattle.chip.specs.declared.entry.Entry.{Entry}
 use Rattle.chip.specs.declared.state.State.{State}
-use Rattle.desk.specs.Promises.{DeskOpened}
+use Rattle.crew.specs.Obeyed.{Answered}
+use Rattle.crew.specs.declared.reply.Reply.{Reply}
+use Rattle.crew.specs.declared.request.Request.{Request}
+use Rattle.desk.specs.Promises.{DeskOpened, Ended}
 use Rattle.desk.specs.Standing.{Standing}
 use Rattle.wire.specs.Direct.{DirectGoes, DirectPasses}
 use Rattle.wire.specs.Scripted.{seen, unplayed}
 use Rattle.wire.specs.Wire.{Goes, Passes}
 use Rattle.wire.specs.declared.direct.Direct.{Direct}
+use Rattle.wire.specs.declared.scripted.Scripted.{Scripted}
 
 -- a book of 64 places, no more filled than there are
 pub record HasRoom {W : Type 0} (d : Standing W) : Type 0 where
@@ -45,6 +49,13 @@ goes_to m u q b r w = DirectGoes m (chip_at u) q b r (chip_at w)
 
 abbrev pub passes_to : Datasheet → {M : Type 0} → Passes (Direct M)
 passes_to m u ks w = DirectPasses m (chip_at u) ks (chip_at w)
+
+-- what a line comes to at a post, and what its end does to a slip in hand
+abbrev pub LineAnswered : Datasheet → {M : Type 0} → Option Request → Standing (Direct M) → Reply → Standing (Direct M) → Type 0
+LineAnswered m q d p d' = Answered m chip_at (goes_to m) (passes_to m) q d p d'
+
+abbrev pub PostEnded : Datasheet → {M : Type 0} → Standing (Direct M) → Scripted (Direct M) → Type 0
+PostEnded m d w = Ended m chip_at (goes_to m) d.hand d.meter d.wire w
 
 -- a new post: an empty book of the lent places, nothing in hand, a fresh chip, and no outcome added
 pub record PostOpened (m : Datasheet) {M : Type 0} (places : List Entry) (d : Standing (Direct M)) : Type 0 where

@@ -1,11 +1,8 @@
 //! A post's beginning, the answer to a line, and its end.
 ghost use Rattle.std.specs.Prelude.{◌≡◌};
 ghost use Rattle.crew.specs.Asks.{asked};
-ghost use Rattle.crew.specs.Obeyed.{Answered};
-ghost use Rattle.crew.specs.Runs.{GoesOn, OnRun, PostOpened, chip_at, goes_to, passes_to};
-ghost use Rattle.desk.specs.Promises.{Ended};
-ghost use Rattle.desk.specs.Standing.{hand_of, standing};
-ghost use Rattle.meter.specs.Views.{meter_of};
+ghost use Rattle.crew.specs.Runs.{GoesOn, LineAnswered, OnRun, PostEnded, PostOpened, chip_at};
+ghost use Rattle.desk.specs.Standing.{standing};
 
 use super::{PLACES, Post, requests};
 use crate::reply::{Reply, Word};
@@ -30,7 +27,7 @@ impl<'a, M: Make> Post<'a, M> {
 
     /// The answer to a line, whatever its bytes are.
     pub fn answer(&mut self, line: &[u8]) -> Reply
-        ensures answered { Answered M.Make.sheet chip_at (goes_to M.Make.sheet) (passes_to M.Make.sheet) (asked line.now) (standing self.old.desk) result (standing self.new.desk) }
+        ensures answered { LineAnswered M.Make.sheet (asked line.now) (standing self.old.desk) result (standing self.new.desk) }
         ensures statements { ∥ OnRun M.Make.sheet chip_at (standing self.new.desk) ∥₁ }
         ensures goes_on { GoesOn M.Make.sheet chip_at (standing self.old.desk) (standing self.new.desk) }
         ensures same { self.new.desk.book.places.ghost_name ≡ self.old.desk.book.places.ghost_name }
@@ -46,7 +43,7 @@ impl<'a, M: Make> Post<'a, M> {
 
     /// Gives the wire and the book back. A slip in hand is written off first.
     pub fn end(self) -> (Scripted<Direct<M>>, Book<'a>)
-        ensures written_off { Ended M.Make.sheet chip_at (goes_to M.Make.sheet) (hand_of self.entry.desk.slip) (meter_of self.entry.desk.meter) self.entry.desk.meter.wire result.0 }
+        ensures written_off { PostEnded M.Make.sheet (standing self.entry.desk) result.0 }
         ensures wire { result.0 ≡ self.entry.desk.meter.wire }
         ensures book { result.1 ≡ self.entry.desk.book }
     {

@@ -5,8 +5,8 @@ use Rattle.crew.proofs.Readings.{read_none, read_some}
 use Rattle.crew.proofs.Runs.{goes_onward, still_on}
 use Rattle.crew.proofs.post.Post.answer.Goals as goal
 use Rattle.crew.specs.Asks.{asked}
-use Rattle.crew.specs.Obeyed.{Answered, unreadable}
-use Rattle.crew.specs.Runs.{HasRoom, OnRun, chip_at, goes_to, passes_to}
+use Rattle.crew.specs.Obeyed.{unreadable}
+use Rattle.crew.specs.Runs.{HasRoom, LineAnswered, OnRun, chip_at, goes_to, passes_to}
 use Rattle.crew.specs.declared.request.Request.{Request}
 use Rattle.desk.specs.Standing.{standing}
 
@@ -25,15 +25,14 @@ returns-in-Ok-clause-answered g c =
     let m = g.M.Make.sheet in
     let some : asked c.args.line.now ≡ Some c.in-Ok.request = read_some _ _ (sym c.read.ensures ∙ c.in-Ok.is) in
     subst
-    (λ (o : Option Request). Answered m chip_at (goes_to m) (passes_to m) o (standing c.args.self.now.desk) (record { word = c.of.result; outcome = c.obey.result })
-    (standing c.obey.new.desk))
+    (λ (o : Option Request). LineAnswered m o (standing c.args.self.now.desk) (record { word = c.of.result; outcome = c.obey.result }) (standing c.obey.new.desk))
     (sym some) (c.of.ensures, c.obey.ensures.obeyed)
 
 pub returns-in-Err-clause-answered : goal.returns-in-Err-clause-answered
 returns-in-Err-clause-answered g c =
     let m = g.M.Make.sheet in
     let none : asked c.args.line.now ≡ None = read_none _ _ (sym c.read.ensures ∙ c.in-Err.is) in
-    subst (λ (o : Option Request). Answered m chip_at (goes_to m) (passes_to m) o (standing c.args.self.now.desk) unreadable (standing c.args.self.now.desk)) (sym none)
+    subst (λ (o : Option Request). LineAnswered m o (standing c.args.self.now.desk) unreadable (standing c.args.self.now.desk)) (sym none)
     (refl, refl)
 
 pub returns-in-Ok-clause-goes_on : goal.returns-in-Ok-clause-goes_on
