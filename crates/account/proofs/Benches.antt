@@ -50,6 +50,7 @@ sound_193 = record {
   sound = refl;
   counted = refl;
   number = refl;
+  unspoilt = ((tt, tt), tt);
 }
 
 off_193 : WriteOffRun pac193x
@@ -110,6 +111,7 @@ sound_194 = record {
   sound = refl;
   counted = refl;
   number = refl;
+  unspoilt = ((tt, tt), tt);
 }
 
 off_194 : WriteOffRun pac194x

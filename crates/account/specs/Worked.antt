@@ -13,7 +13,7 @@ use Rattle.makes.specs.Figures.{Figures, on_one}
 use Rattle.book.specs.Bill.{bill, bill_of}
 use Rattle.account.specs.Dialogue.{Meter, new_meter, handed, entered, refused, Follows, book, dialogue, draws, in_doubt}
 use Rattle.account.specs.History.{History, Reached, carried_in, happened_after}
-use Rattle.account.specs.Statements.{refresh_carried}
+use Rattle.account.specs.Statements.{Unspoilt, refresh_carried}
 use Rattle.makes.specs.Pac193x.{pac193x}
 use Rattle.makes.specs.Pac194x.{pac194x}
 
@@ -79,6 +79,8 @@ pub record SoundRun (m : Datasheet) : Type 0 where
   pub sound : e.spoilt ≡ 0
   pub counted : e.count ≡ 1
   pub number : e.draw ≡ 1
+  -- and meets the premise of conservation
+  pub unspoilt : Unspoilt m h
 
 pub record WriteOffRun (m : Datasheet) : Type 0 where
   pub t : Meter

@@ -18,3 +18,16 @@ pub struct Entry {
     /// what the sum registers held, with their signs; channel 1 comes first
     pub sums: [i64; 4],
 }
+
+impl Entry {
+    /// What stands in a place that nothing was written to.
+    pub const EMPTY: Entry = Entry {
+        draw: 0,
+        spoilt: 0,
+        count: 0,
+        rate: 0,
+        off: 0,
+        two_way: 0,
+        sums: [0; 4],
+    };
+}

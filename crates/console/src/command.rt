@@ -6,13 +6,6 @@ use chip::refusal::Refusal;
 use chip::state::Codes;
 use lines::line::Line;
 
-// The kinds of chip.
-#[derive(Clone, Copy)]
-pub(crate) enum Kind {
-    Pac193x,
-    Pac194x,
-}
-
 // A line for the chip, whoever holds the wire.
 #[derive(Clone, Copy)]
 pub(crate) enum BenchCommand {
@@ -44,18 +37,6 @@ pub(crate) enum DeskCommand {
     State,
     Scratch,
     Release,
-}
-
-impl TryFrom<&Line<'_>> for Kind {
-    type Error = Refusal;
-
-    fn try_from(line: &Line) -> Result<Kind, Refusal> {
-        match (line.word.text, line.fields.as_slice()) {
-            (b"kind", [193]) => Ok(Kind::Pac193x),
-            (b"kind", [194]) => Ok(Kind::Pac194x),
-            _ => Err(Refusal::Unreadable),
-        }
-    }
 }
 
 impl TryFrom<&Line<'_>> for BenchCommand {

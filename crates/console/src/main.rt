@@ -8,18 +8,14 @@ mod raw;
 mod reply;
 
 use chip::make::Make;
-use command::Kind;
-use lines::input::Input;
-use lines::line;
+use crew::kind::{self, Kind};
+use crew::reply::Reply;
+use lines::input::{Input, LIMIT};
 use makes::pac193x::Pac193x;
 use makes::pac194x::Pac194x;
-use reply::Reply;
 use std::io::Read;
 use wire::direct::Direct;
 use wire::scripted::Scripted;
-
-// The first 64 KiB of standard input are read.
-const LIMIT: u64 = 65536;
 
 fn main(rt: HostRuntime) -> anyhow::Result<()> {
     let mut text = Vec::new(rt.alloc());
@@ -30,10 +26,10 @@ fn main(rt: HostRuntime) -> anyhow::Result<()> {
 // With no chip on the bench only a good `kind` line can be read.
 fn run(rt: &impl Print, mut input: Input) -> anyhow::Result<()> {
     for line in input.by_ref() {
-        match line::parse(line).and_then(|said| Kind::try_from(&said)) {
+        match kind::opening(line) {
             Ok(Kind::Pac193x) => return serve::<Pac193x>(rt, input),
             Ok(Kind::Pac194x) => return serve::<Pac194x>(rt, input),
-            Err(refusal) => rt.println(Reply::from(refusal))?,
+            Err(reply) => rt.println(reply)?,
         }
     }
     Ok(())
@@ -41,6 +37,6 @@ fn run(rt: &impl Print, mut input: Input) -> anyhow::Result<()> {
 
 // Every line after the `kind` line, for a fresh chip of that make.
 fn serve<M: Make>(rt: &impl Print, input: Input) -> anyhow::Result<()> {
-    rt.println(Reply::done("kind"))?;
+    rt.println(Reply::KIND)?;
     raw::serve(rt, Scripted::new(Direct::<M>::new()), input)
 }

@@ -16,16 +16,6 @@ use wire::wire::Wire;
 // How many entries the book has room for.
 const PLACES: usize = 64;
 
-const EMPTY: Entry = Entry {
-    draw: 0,
-    spoilt: 0,
-    count: 0,
-    rate: 0,
-    off: 0,
-    two_way: 0,
-    sums: [0; 4],
-};
-
 // A desk of the wire, with an empty book, until it is released or there are no more lines; then the wire comes back. All that can
 // fail stands where the desk is lent, so that it always ends, and with it a slip that is still in hand.
 pub(crate) fn serve<W: Wire + Drop>(
@@ -35,7 +25,7 @@ pub(crate) fn serve<W: Wire + Drop>(
 ) -> anyhow::Result<Scripted<W>>
     ensures { length (lines input.new.rest.now) ≤ length (lines input.old.rest.now) }
 {
-    let mut places = [EMPTY; PLACES];
+    let mut places = [Entry::EMPTY; PLACES];
     let mut desk = Desk::new(wire, &mut places);
     let served = serve_lines(rt, &mut desk, input);
     let (wire, _book) = desk.end();

@@ -1,8 +1,10 @@
 //! The line that says which chip there is.
 ghost use Rattle.std.specs.Prelude.{◌≡◌};
 ghost use Rattle.crew.specs.Asks.{kind_asked, kind_of, or_unreadable};
+ghost use Rattle.crew.specs.Obeyed.{or_reply};
 ghost use Rattle.lines.specs.Numbers.{items};
 
+use super::reply::Reply;
 use chip::refusal::Refusal;
 use lines::line;
 use lines::line::Line;
@@ -28,9 +30,16 @@ impl TryFrom<&Line<'_>> for Kind {
     }
 }
 
+/// What a line comes to before there is a chip: the kind that it names, or the reply, since nothing else can be read yet.
+pub fn opening(line: &[u8]) -> Result<Kind, Reply>
+    ensures { result ≡ or_reply (kind_asked line.now) }
+{
+    Kind::read(line).map_err(|_| Reply::UNREADABLE)
+}
+
 impl Kind {
-    /// The kind that a line names, read from its bytes.
-    pub fn read(line: &[u8]) -> Result<Kind, Refusal>
+    // The kind that a line names, read from its bytes.
+    fn read(line: &[u8]) -> Result<Kind, Refusal>
         ensures { result ≡ or_unreadable (kind_asked line.now) }
     {
         Kind::try_from(&line::parse(line)?)

@@ -5,6 +5,9 @@ ghost use Rattle.lines.specs.Cuts.{lines};
 
 use super::mark;
 
+/// A program reads the first 64 KiB of its input.
+pub const LIMIT: u64 = 65536;
+
 /// The lines that are still to come.
 #[derive(Drop)]
 pub struct Input<'a> {

@@ -116,17 +116,6 @@ impl Line {
     }
 }
 
-// What stands in a place that nothing was written to.
-pub(crate) const BLANK: Entry = Entry {
-    draw: 0,
-    spoilt: 0,
-    count: 0,
-    rate: 0,
-    off: 0,
-    two_way: 0,
-    sums: [0; 4],
-};
-
 // Cycles of v 40000, s 20000 on channel 1, and nothing on the others.
 pub(crate) fn cycles<W: Wire>(meter: &mut Meter<W>, n: u16) {
     let busy = Codes {
@@ -191,7 +180,7 @@ pub(crate) fn book<W: Wire>(
 // The entry of the next stretch, by a book of its own.
 pub(crate) fn next_line<W: Wire>(rt: &impl Abort, meter: &mut Meter<W>) -> Line {
     let slip = drawn(rt, meter);
-    let mut places = [BLANK; 1];
+    let mut places = [Entry::EMPTY; 1];
     book(rt, meter, slip, &mut Book::new(&mut places, 0))
 }
 

@@ -1,6 +1,7 @@
 //! Bookings that are refused, and what each leaves; the scratch; the largest book.
-use crate::bench::{self, BLANK, Known, Line};
+use crate::bench::{self, Known, Line};
 use book::book::Book;
+use chip::entry::Entry;
 use chip::make::Make;
 use chip::refusal::Refusal;
 use makes::pac193x::Pac193x;
@@ -36,7 +37,7 @@ fn refused<W: Wire>(
 
 // What is wrong with a book or a scratch is told before what is wrong with the slip, and that before a full book.
 fn limits_first<W: Wire>(rt: &impl Abort, meter: &mut Meter<W>, wrong: Slip) -> Slip {
-    let mut places = [BLANK; 1];
+    let mut places = [Entry::EMPTY; 1];
     let mut none = Book::new(&mut [], 0);
     let wrong = refused(rt, meter, wrong, &mut none, 32, Refusal::Limits);
     let mut overfull = Book::new(&mut places, 2);
@@ -48,11 +49,11 @@ fn limits_first<W: Wire>(rt: &impl Abort, meter: &mut Meter<W>, wrong: Slip) -> 
 
 // The same with the open slip; a full book is told before anything is sent.
 fn then_a_full_book<W: Wire>(rt: &impl Abort, meter: &mut Meter<W>, slip: Slip) -> Slip {
-    let mut places = [BLANK; 1];
+    let mut places = [Entry::EMPTY; 1];
     let mut full = Book::new(&mut places, 1);
     let slip = refused(rt, meter, slip, &mut full, 31, Refusal::Limits);
     let slip = refused(rt, meter, slip, &mut full, 32, Refusal::Full);
-    assert_eq!(rt; Line::of(places[0]), Line::of(BLANK));
+    assert_eq!(rt; Line::of(places[0]), Line::of(Entry::EMPTY));
     slip
 }
 
@@ -67,7 +68,7 @@ fn refusals_in_order<M: Known>(rt: &impl Abort) {
     let wrong = limits_first(rt, &mut meter, wrong);
     bench::write_off(rt, &mut other, wrong);
     let slip = then_a_full_book(rt, &mut meter, slip);
-    let mut places = [BLANK; 1];
+    let mut places = [Entry::EMPTY; 1];
     let mut book = Book::new(&mut places, 0);
     let slip = refused(rt, &mut meter, slip, &mut book, 32, bench::failure(1, 0x02));
     let line = bench::book(rt, &mut meter, slip, &mut book);
@@ -91,10 +92,10 @@ fn the_largest_book<M: Known>(rt: &impl Abort) {
     let mut meter = bench::plain::<M>(1, 0);
     bench::cycles(&mut meter, 1);
     let slip = bench::drawn(rt, &mut meter);
-    let mut too_many = [BLANK; 4097];
+    let mut too_many = [Entry::EMPTY; 4097];
     let mut book = Book::new(&mut too_many, 0);
     let slip = refused(rt, &mut meter, slip, &mut book, 32, Refusal::Limits);
-    let mut places = [BLANK; 4096];
+    let mut places = [Entry::EMPTY; 4096];
     let mut book = Book::new(&mut places, 4095);
     let line = bench::book(rt, &mut meter, slip, &mut book);
     assert_eq!(rt;
@@ -102,7 +103,7 @@ fn the_largest_book<M: Known>(rt: &impl Abort) {
         (M::ENERGY, 4096, 0)
     );
     assert_eq!(rt; Line::of(places[4095]), line);
-    assert_eq!(rt; Line::of(places[4094]), Line::of(BLANK));
+    assert_eq!(rt; Line::of(places[4094]), Line::of(Entry::EMPTY));
     let _ = meter.release();
 }
 
@@ -167,7 +168,7 @@ fn second_stretch<M: Make>(rt: &impl Abort) -> (bench::Faulty<M>, Slip) {
 // A first read that fails leaves the scratch, a second one the first reply, a booking both; bytes beyond stay.
 fn scratch_after<M: Replies>(rt: &impl Abort, outcome: u8) {
     let (mut meter, slip) = second_stretch::<M>(rt);
-    let mut places = [BLANK; 1];
+    let mut places = [Entry::EMPTY; 1];
     let mut book = Book::new(&mut places, 0);
     let mut scratch = [FILL; 40];
     bench::script(rt, &mut meter, &[outcome, 0, outcome]);

@@ -1,5 +1,5 @@
 //! Draws that fail in every way at every transaction: the entries still count every cycle once.
-use crate::bench::{self, BLANK, Faulty, Known, Line};
+use crate::bench::{self, Faulty, Known, Line};
 use book::book::Book;
 use chip::entry::Entry;
 use makes::pac193x::Pac193x;
@@ -68,7 +68,7 @@ fn counted(places: &[Entry]) -> u32 {
 // A REFRESH that was carried out closes the stretch at once, so that the two cycles after it are the next entry's; else they are this one's.
 fn every_failure<M: Known>(rt: &impl Abort) {
     let mut meter = bench::faulty::<M>(1, 0);
-    let mut places = [BLANK; 16];
+    let mut places = [Entry::EMPTY; 16];
     let mut book = Book::new(&mut places, 0);
     let mut cycles: u32 = 0;
     for outcome in 1..=3 {

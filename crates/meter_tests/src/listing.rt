@@ -1,6 +1,7 @@
 //! One cycle, drawn, booked and billed; and draws whose REFRESH broke.
-use crate::bench::{self, BLANK, Known, Line};
+use crate::bench::{self, Known, Line};
 use book::book::Book;
+use chip::entry::Entry;
 use chip::refusal::{Refusal, Who};
 use makes::pac193x::Pac193x;
 use makes::pac194x::Pac194x;
@@ -14,7 +15,7 @@ fn one_cycle_billed<M: Known>(rt: &impl Abort) {
     assert_eq!(rt; meter.set_up(3, 0, 0), Ok(()));
     let slip = bench::drawn(rt, &mut meter);
     assert_eq!(rt; (slip.meter(), slip.draw()), (1, 1));
-    let mut places = [BLANK; 2];
+    let mut places = [Entry::EMPTY; 2];
     let mut book = Book::new(&mut places, 0);
     let line = bench::book(rt, &mut meter, slip, &mut book);
     let expected = Line::sound::<M>(1, 1, [0, 0, 0]);
@@ -24,7 +25,7 @@ fn one_cycle_billed<M: Known>(rt: &impl Abort) {
         (M::ENERGY, 1, 0)
     );
     assert_eq!(rt; Line::of(places[0]), expected);
-    assert_eq!(rt; Line::of(places[1]), Line::of(BLANK));
+    assert_eq!(rt; Line::of(places[1]), Line::of(Entry::EMPTY));
     let _ = meter.release();
 }
 
@@ -50,7 +51,7 @@ fn a_lost_acknowledgement<M: Known>(rt: &impl Abort) {
     bench::script(rt, &mut meter, &[0, 1]);
     let slip = bench::drawn(rt, &mut meter);
     assert_eq!(rt; slip.draw(), 1);
-    let mut places = [BLANK; 2];
+    let mut places = [Entry::EMPTY; 2];
     let mut book = Book::new(&mut places, 0);
     let slip = bench::unbooked(
         rt,

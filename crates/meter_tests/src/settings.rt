@@ -1,6 +1,7 @@
 //! Which set-ups are taken, and when they come into force.
-use crate::bench::{self, BLANK, Known, Line};
+use crate::bench::{self, Known, Line};
 use book::book::Book;
+use chip::entry::Entry;
 use chip::refusal::Refusal;
 use chip::state::Codes;
 use makes::pac193x::Pac193x;
@@ -49,7 +50,7 @@ fn with_a_slip_out<M: Known>(rt: &impl Abort) {
     let slip = bench::drawn(rt, &mut meter);
     assert_eq!(rt; meter.set_up(1, 2, 4), Ok(()));
     bench::cycles(&mut meter, 2);
-    let mut places = [BLANK; 1];
+    let mut places = [Entry::EMPTY; 1];
     let line = bench::book(rt, &mut meter, slip, &mut Book::new(&mut places, 0));
     assert_eq!(rt; line, Line::sound::<M>(1, 1, [0, 0, 0]));
     assert_eq!(rt;
@@ -114,7 +115,7 @@ fn a_negative_sum<M: Known>(rt: &impl Abort) {
     };
     meter.cycle([backward, idle, idle, idle]);
     let slip = bench::drawn(rt, &mut meter);
-    let mut places = [BLANK; 1];
+    let mut places = [Entry::EMPTY; 1];
     let mut book = Book::new(&mut places, 0);
     let line = bench::book(rt, &mut meter, slip, &mut book);
     let sums = line.sums;

@@ -1,6 +1,7 @@
 //! Slips offered to a meter that did not hand them out, and slips written off.
-use crate::bench::{self, BLANK, Faulty, Known, Line};
+use crate::bench::{self, Faulty, Known, Line};
 use book::book::Book;
+use chip::entry::Entry;
 use chip::refusal::Refusal;
 use makes::pac193x::Pac193x;
 use makes::pac194x::Pac194x;
@@ -18,7 +19,7 @@ fn refused<W: Wire>(
     expected: (u32, u32),
 ) -> Slip {
     let condition = meter.condition();
-    let mut places = [BLANK; 1];
+    let mut places = [Entry::EMPTY; 1];
     let mut book = Book::new(&mut places, 0);
     let answer = meter.book(slip, &mut book, &mut [0; 32]);
     let slip = bench::unbooked(rt, answer, Refusal::WrongSlip);
@@ -27,7 +28,7 @@ fn refused<W: Wire>(
     assert_eq!(rt; (slip.meter(), slip.draw()), expected);
     assert_eq!(rt; meter.condition(), condition);
     assert_eq!(rt; meter.write_offs(), 0);
-    assert_eq!(rt; Line::of(places[0]), Line::of(BLANK));
+    assert_eq!(rt; Line::of(places[0]), Line::of(Entry::EMPTY));
     slip
 }
 
@@ -42,7 +43,7 @@ fn crosswise<M: Known>(rt: &impl Abort, number: u32, last: u32, draw: u32) {
     let other = refused(rt, &mut first, other, (number, draw));
     bench::write_off(rt, &mut first, slip);
     assert_eq!(rt; first.write_offs(), 1);
-    let mut places = [BLANK; 1];
+    let mut places = [Entry::EMPTY; 1];
     let line = bench::book(rt, &mut second, other, &mut Book::new(&mut places, 0));
     assert_eq!(rt; line, Line::sound::<M>(draw, 1, [0, 0, 0]));
     let _ = first.release();
@@ -94,7 +95,7 @@ fn written_off<M: Known>(rt: &impl Abort) {
     assert_eq!(rt; meter.condition(), Condition::Ready);
     bench::cycles(&mut meter, 1);
     let slip = bench::drawn(rt, &mut meter);
-    let mut places = [BLANK; 2];
+    let mut places = [Entry::EMPTY; 2];
     let mut book = Book::new(&mut places, 0);
     let expected = Line::sound::<M>(2, 1, [0, 0, 0]);
     assert_eq!(rt; bench::book(rt, &mut meter, slip, &mut book), expected);

@@ -1,6 +1,7 @@
 //! Stretches whose sum just fits its register, and just leaves it.
-use crate::bench::{self, BLANK, Known, Line};
+use crate::bench::{self, Known, Line};
 use book::book::Book;
+use chip::entry::Entry;
 use chip::state::Codes;
 use makes::pac193x::Pac193x;
 use makes::pac194x::Pac194x;
@@ -77,7 +78,7 @@ fn line_of(draw: u32, spoilt: u8, count: u32, sum: i64) -> Line {
 // The entry of a stretch that left a register is marked, and the bill passes over it; the next stretch is sound again.
 fn a_spoilt_stretch<M: Long>(rt: &impl Abort) {
     let mut meter = bench::plain::<M>(1, 0);
-    let mut places = [BLANK; 2];
+    let mut places = [Entry::EMPTY; 2];
     let mut book = Book::new(&mut places, 0);
     largest(&mut meter, M::LEAVES);
     let slip = bench::drawn(rt, &mut meter);

@@ -13,17 +13,6 @@ use wire::wire::Wire;
 // Where channel 1's power is read.
 const POWER: u8 = 0x17;
 
-// What stands in a place that nothing was written to.
-pub(crate) const BLANK: Entry = Entry {
-    draw: 0,
-    spoilt: 0,
-    count: 0,
-    rate: 0,
-    off: 0,
-    two_way: 0,
-    sums: [0; 4],
-};
-
 // What the meter and the power register of channel 1 show.
 #[derive(Clone, Copy)]
 pub(crate) struct Shown {
@@ -36,7 +25,7 @@ pub(crate) struct Shown {
 
 // A fresh chip through the cycles of a case.
 pub(crate) fn measure<M: Make + Drop>(case: &Case) -> anyhow::Result<Shown> {
-    let mut places = [BLANK; 2];
+    let mut places = [Entry::EMPTY; 2];
     let mut desk = Desk::new(Scripted::new(Direct::<M>::new()), &mut places);
     let metered = run(&mut desk, case);
     let (mut wire, _book) = desk.end();

@@ -1,6 +1,6 @@
 //! The worked listing: a cycle, a set-up, a draw, its booking and a bill, with the figures worked out by hand.
 
-use super::bench::{self, BLANK};
+use super::bench;
 use super::check::{self, Tally};
 use book::bill::Bill;
 use chip::entry::Entry;
@@ -60,7 +60,7 @@ impl<const N: usize> Answer<N> {
 }
 
 pub(crate) fn check(rt: &impl Print, tally: &mut Tally) -> anyhow::Result<()> {
-    let mut places = [BLANK; 64];
+    let mut places = [Entry::EMPTY; 64];
     let mut desk = Desk::new(Scripted::new(Direct::<Pac193x>::new()), &mut places);
     let followed = follow(&mut desk);
     let _ = desk.end();

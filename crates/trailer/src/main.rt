@@ -3,26 +3,13 @@
 
 use chip::entry::Entry;
 use chip::make::Make;
-use crew::kind::Kind;
+use crew::kind::{self, Kind};
 use crew::post::{PLACES, Post};
 use crew::reply::Reply;
-use lines::input::Input;
+use lines::input::{Input, LIMIT};
 use makes::pac193x::Pac193x;
 use makes::pac194x::Pac194x;
 use std::io::Read;
-
-// The first 64 KiB of standard input are read.
-const LIMIT: u64 = 65536;
-
-const EMPTY: Entry = Entry {
-    draw: 0,
-    spoilt: 0,
-    count: 0,
-    rate: 0,
-    off: 0,
-    two_way: 0,
-    sums: [0; 4],
-};
 
 fn main(rt: HostRuntime) -> anyhow::Result<()> {
     let mut text = Vec::new(rt.alloc());
@@ -33,10 +20,10 @@ fn main(rt: HostRuntime) -> anyhow::Result<()> {
 // Before a good `kind` line nothing else can be read.
 fn run(rt: &impl Print, mut input: Input) -> anyhow::Result<()> {
     for line in input.by_ref() {
-        match Kind::read(line) {
+        match kind::opening(line) {
             Ok(Kind::Pac193x) => return serve::<Pac193x>(rt, input),
             Ok(Kind::Pac194x) => return serve::<Pac194x>(rt, input),
-            Err(_) => rt.println(Reply::UNREADABLE)?,
+            Err(reply) => rt.println(reply)?,
         }
     }
     Ok(())
@@ -46,7 +33,7 @@ fn run(rt: &impl Print, mut input: Input) -> anyhow::Result<()> {
 // that is still in hand.
 fn serve<M: Make>(rt: &impl Print, input: Input) -> anyhow::Result<()> {
     rt.println(Reply::KIND)?;
-    let mut places = [EMPTY; PLACES];
+    let mut places = [Entry::EMPTY; PLACES];
     let mut post = Post::<M>::new(&mut places);
     let served = answer_all(rt, &mut post, input);
     let (_wire, _book) = post.end();

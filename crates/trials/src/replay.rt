@@ -2,7 +2,7 @@
 
 use chip::entry::Entry;
 use chip::make::Make;
-use crew::kind::Kind;
+use crew::kind::{self, Kind};
 use crew::post::{PLACES, Post};
 use crew::reply::Reply;
 use lines::input::Input;
@@ -10,25 +10,15 @@ use makes::pac193x::Pac193x;
 use makes::pac194x::Pac194x;
 use std::alloc::{AllocError, Global};
 
-const EMPTY: Entry = Entry {
-    draw: 0,
-    spoilt: 0,
-    count: 0,
-    rate: 0,
-    off: 0,
-    two_way: 0,
-    sums: [0; 4],
-};
-
 // A reply to each line of the text. Before a good `kind` line nothing else can be read.
 pub(crate) fn replies(alloc: Global, text: &[u8]) -> Result<String, AllocError> {
     let mut replies = String::new(alloc);
     let mut input = Input::new(text);
     for line in input.by_ref() {
-        match Kind::read(line) {
+        match kind::opening(line) {
             Ok(Kind::Pac193x) => return serve::<Pac193x>(replies, input),
             Ok(Kind::Pac194x) => return serve::<Pac194x>(replies, input),
-            Err(_) => add(&mut replies, Reply::UNREADABLE)?,
+            Err(reply) => add(&mut replies, reply)?,
         }
     }
     Ok(replies)
@@ -37,7 +27,7 @@ pub(crate) fn replies(alloc: Global, text: &[u8]) -> Result<String, AllocError> 
 // Every line after the `kind` line. All that can fail stands where the post is lent, so that it always ends.
 fn serve<M: Make>(mut replies: String, input: Input) -> Result<String, AllocError> {
     add(&mut replies, Reply::KIND)?;
-    let mut places = [EMPTY; PLACES];
+    let mut places = [Entry::EMPTY; PLACES];
     let mut post = Post::<M>::new(&mut places);
     let served = answer_all(&mut replies, &mut post, input);
     let (_wire, _book) = post.end();

@@ -1,12 +1,10 @@
 //! A transcript: what is read, and what is to be printed.
 
+use lines::input::LIMIT;
 use std::alloc::Global;
 use std::io::Read;
 use std::rt::Files;
 use std::{fs, io};
-
-// The program reads the first 64 KiB of its input.
-const LIMIT: u64 = 65536;
 
 #[derive(Drop)]
 pub(crate) struct Transcript {
