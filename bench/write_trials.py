@@ -132,6 +132,7 @@ def add_settings():
         add(f"energy-by-rate-{kind}x", lines)
 
         add(f"two-way-{kind}x", two_way_lines(kind))
+        add(f"late-setups-{kind}x", late_setup_lines(kind))
 
 
 def two_way_lines(kind):
@@ -153,6 +154,18 @@ def two_way_lines(kind):
         *[setup(0, 0, 0), "draw", "book"],
         *["bill,1,1", "bill,2,1", "bill,3,1", "bill,4,1", "bill,3,1000"],
     ]
+
+
+def late_setup_lines(kind):
+    """Set-ups that come with a slip out, and in doubt after a REFRESH that
+    was carried out or not: which draw puts them in force, and for which entry."""
+    lines = [f"kind,{kind}", cycle(4000, 4), "draw", setup(1, 2, 4), cycle(4000, 8), "book"]
+    lines += ["draw", "book", cycle(4000, 12), "draw", "book"]
+    for outcome in (3, 2):
+        lines += [setup(2, 4, 1), cycle(4000, 16), *faults(*[0] * WRITES[kind], outcome), "draw"]
+        lines += [setup(3, 1, 8), cycle(4000, 20), "draw", "book"]
+        lines += [cycle(4000, 24), "draw", "book", cycle(4000, 28), "draw", "book"]
+    return [*lines, "bill,1,1"]
 
 
 # -------------------------------------------------------- refusals and ends

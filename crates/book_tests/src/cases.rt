@@ -52,5 +52,5 @@ pub(crate) fn bills<M: Make>(
 ) {
     let filled = entries.len();
     let book = Book::new(entries, filled);
-    assert_eq!(rt; book.bill::<M>(channel, shunt), expected);
+    checks::same(rt, book.bill::<M>(channel, shunt), expected);
 }

@@ -24,8 +24,8 @@ fn outside_their_limits(rt: HostRuntime) {
     ] {
         let book = Book::new(&mut all[..places], filled);
         let refused = Err(Refusal::Limits);
-        assert_eq!(rt; book.bill::<Pac193x>(channel, shunt), refused);
-        assert_eq!(rt; book.bill::<Pac194x>(channel, shunt), refused);
+        checks::same(&rt, book.bill::<Pac193x>(channel, shunt), refused);
+        checks::same(&rt, book.bill::<Pac194x>(channel, shunt), refused);
     }
 }
 
@@ -40,8 +40,8 @@ fn within_their_limits(rt: HostRuntime) {
         (4096, 2, 4, 1),
     ] {
         let book = Book::new(&mut all[..places], filled);
-        assert_eq!(rt; book.within_limits(), true);
-        assert_eq!(rt; book.bill::<Pac193x>(channel, shunt), bill(0, filled, 0));
-        assert_eq!(rt; book.bill::<Pac194x>(channel, shunt), bill(0, filled, 0));
+        checks::same(&rt, book.within_limits(), true);
+        checks::same(&rt, book.bill::<Pac193x>(channel, shunt), bill(0, filled, 0));
+        checks::same(&rt, book.bill::<Pac194x>(channel, shunt), bill(0, filled, 0));
     }
 }

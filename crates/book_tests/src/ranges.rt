@@ -17,7 +17,7 @@ fn refuses<M: Make>(rt: &impl Abort, bad: Entry) {
         (4, Err(Refusal::BadEntry(2))),
     ] {
         let book = Book::new(&mut places, filled);
-        assert_eq!(rt; book.bill::<M>(4, 100), answer);
+        checks::same(rt, book.bill::<M>(4, 100), answer);
     }
 }
 
@@ -32,7 +32,7 @@ fn takes<M: Make>(rt: &impl Abort, good: Entry) {
     let spoilt = Entry { spoilt: 1, ..good };
     let mut places = [good, spoilt];
     let book = Book::new(&mut places, 2);
-    assert_eq!(rt; book.bill::<M>(4, 100), bill(0, 1, 1));
+    checks::same(rt, book.bill::<M>(4, 100), bill(0, 1, 1));
 }
 
 // The same sum on channels 1 to 3 in turn, and 0 elsewhere.

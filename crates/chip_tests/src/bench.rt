@@ -59,7 +59,7 @@ impl<'a, M: Make, R> Bench<'a, M, R> {
 
 impl<M: Make, R: Abort> Bench<'_, M, R> {
     pub(crate) fn write(&mut self, address: u8, bytes: &[u8]) {
-        assert_eq!(self.rt; self.chip.write(address, bytes), Ok(()));
+        checks::same(self.rt, self.chip.write(address, bytes), Ok(()));
     }
 
     pub(crate) fn write_all(&mut self, writes: Writes) {
@@ -69,11 +69,11 @@ impl<M: Make, R: Abort> Bench<'_, M, R> {
     }
 
     pub(crate) fn send(&mut self, command: u8) {
-        assert_eq!(self.rt; self.chip.send(command), Ok(()));
+        checks::same(self.rt, self.chip.send(command), Ok(()));
     }
 
     pub(crate) fn read(&self, address: u8, bytes: &mut [u8]) {
-        assert_eq!(self.rt; self.chip.read(address, bytes), Ok(()));
+        checks::same(self.rt, self.chip.read(address, bytes), Ok(()));
     }
 
     // The number that a register shows.
@@ -86,7 +86,7 @@ impl<M: Make, R: Abort> Bench<'_, M, R> {
 
     // That an answer is the chip's refusal, at this address.
     pub(crate) fn assert_refused(&self, answer: Result<(), Refusal>, address: u8) {
-        assert_eq!(self.rt; answer, Err(Refusal::NotAcknowledged(Who::Chip, address)));
+        checks::same(self.rt, answer, Err(Refusal::NotAcknowledged(Who::Chip, address)));
     }
 }
 

@@ -20,8 +20,8 @@ fn what_a_refusal_tells(rt: HostRuntime) {
         (Refusal::Broken(0x1f), 3, Some(0x1f), Some(1)),
         (Refusal::Full, 8, None, None),
     ] {
-        assert_eq!(rt; refusal.number(), number);
-        assert_eq!(rt; refusal.at_address(), address);
-        assert_eq!(rt; refusal.refused_by().map(Who::number), who);
+        checks::same(&rt, refusal.number(), number);
+        checks::same(&rt, refusal.at_address(), address);
+        checks::same(&rt, refusal.refused_by().map(Who::number), who);
     }
 }

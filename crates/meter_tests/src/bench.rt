@@ -21,9 +21,6 @@ pub(crate) trait Known: Make + Drop {
     // what one such cycle is worth at rate code 0 over 10 milliohms, in whole millijoules
     const ENERGY: i128;
 
-    // the addresses of a draw's writes and of its REFRESH, in order
-    const DRAW: &'static [u8];
-
     // outcomes by which a draw's REFRESH is carried out and its acknowledgement gets lost
     const LOST: &'static [u8];
 
@@ -42,8 +39,6 @@ impl Known for Pac193x {
 
     const ENERGY: i128 = 58;
 
-    const DRAW: &'static [u8] = &[0x01, 0x1c, 0x1d, 0x00];
-
     const LOST: &'static [u8] = &[0, 0, 0, 3];
 
     const BROKEN: &'static [u8] = &[0, 0, 0, 2];
@@ -57,8 +52,6 @@ impl Known for Pac194x {
     const PRODUCT: u32 = 200_000_000;
 
     const ENERGY: i128 = 16;
-
-    const DRAW: &'static [u8] = &[0x01, 0x1d, 0x00];
 
     const LOST: &'static [u8] = &[0, 0, 3];
 
@@ -81,38 +74,17 @@ pub(crate) fn faulty<M: Make>(number: u32, last: u32) -> Faulty<M> {
     Meter::new(Scripted::new(Direct::new()), number, last)
 }
 
-// What an entry says.
-#[derive(Clone, Copy, Debug, PartialEq, Eq)]
-pub(crate) struct Line {
-    pub(crate) draw: u32,
-    pub(crate) spoilt: u8,
-    pub(crate) count: u32,
-    // rate code, off mask, two-way mask
-    pub(crate) settings: [u8; 3],
-    pub(crate) sums: [i64; 4],
-}
-
-impl Line {
-    pub(crate) fn of(entry: Entry) -> Line {
-        let sums = entry.sums;
-        Line {
-            draw: entry.draw,
-            spoilt: entry.spoilt,
-            count: entry.count,
-            settings: [entry.rate, entry.off, entry.two_way],
-            sums,
-        }
-    }
-
-    // An unspoilt line of cycles that `cycles` passed on.
-    pub(crate) fn sound<M: Known>(draw: u32, count: u16, settings: [u8; 3]) -> Line {
-        Line {
-            draw,
-            spoilt: 0,
-            count: u32::from(count),
-            settings,
-            sums: [i64::from(count) * i64::from(M::PRODUCT), 0, 0, 0],
-        }
+// The unspoilt entry of cycles that `cycles` passed on, under a rate code, an off mask and a two-way mask.
+pub(crate) fn sound<M: Known>(draw: u32, count: u16, settings: [u8; 3]) -> Entry {
+    let [rate, off, two_way] = settings;
+    Entry {
+        draw,
+        spoilt: 0,
+        count: u32::from(count),
+        rate,
+        off,
+        two_way,
+        sums: [i64::from(count) * i64::from(M::PRODUCT), 0, 0, 0],
     }
 }
 
@@ -131,7 +103,7 @@ pub(crate) fn cycles<W: Wire>(meter: &mut Meter<W>, n: u16) {
 // Adds outcomes to the script of a meter's wire.
 pub(crate) fn script<M: Make>(rt: &impl Abort, meter: &mut Faulty<M>, outcomes: &[u8]) {
     for outcome in outcomes {
-        assert_eq!(rt; meter.add(*outcome), Ok(()));
+        checks::same(rt, meter.add(*outcome), Ok(()));
     }
 }
 
@@ -173,21 +145,21 @@ pub(crate) fn book<W: Wire>(
     meter: &mut Meter<W>,
     slip: Slip,
     book: &mut Book<'_>,
-) -> Line {
+) -> Entry {
     entered(rt, meter.book(slip, book, &mut [0; 32]))
 }
 
 // The entry of the next stretch, by a book of its own.
-pub(crate) fn next_line<W: Wire>(rt: &impl Abort, meter: &mut Meter<W>) -> Line {
+pub(crate) fn next_entry<W: Wire>(rt: &impl Abort, meter: &mut Meter<W>) -> Entry {
     let slip = drawn(rt, meter);
     let mut places = [Entry::EMPTY; 1];
     book(rt, meter, slip, &mut Book::new(&mut places, 0))
 }
 
 // The entry of a booking that is done.
-pub(crate) fn entered(rt: &impl Abort, answer: Result<Entry, Unspent>) -> Line {
+pub(crate) fn entered(rt: &impl Abort, answer: Result<Entry, Unspent>) -> Entry {
     match answer {
-        Ok(entry) => Line::of(entry),
+        Ok(entry) => entry,
         Err(unspent) => panic!(rt; "a booking is refused: {:?}", unspent.refusal),
     }
 }
@@ -197,7 +169,7 @@ pub(crate) fn unbooked(rt: &impl Abort, answer: Result<Entry, Unspent>, expected
     match answer {
         Ok(_) => panic!(rt; "a booking is done"),
         Err(Unspent { slip, refusal }) => {
-            assert_eq!(rt; refusal, expected);
+            checks::same(rt, refusal, expected);
             slip
         }
     }
@@ -208,16 +180,17 @@ pub(crate) fn unwritten(rt: &impl Abort, answer: Result<(), Unspent>, expected: 
     match answer {
         Ok(()) => panic!(rt; "a write-off is done"),
         Err(Unspent { slip, refusal }) => {
-            assert_eq!(rt; refusal, expected);
+            checks::same(rt, refusal, expected);
             slip
         }
     }
 }
 
-// A bill's energy, billed entries and spoilt ones.
-pub(crate) fn billed(rt: &impl Abort, bill: Result<Bill, Refusal>) -> (i128, usize, usize) {
-    match bill {
-        Ok(bill) => (bill.energy, bill.billed, bill.spoilt),
-        Err(refusal) => panic!(rt; "a bill is refused: {refusal:?}"),
-    }
+// What a bill answers.
+pub(crate) fn bill(energy: i128, billed: usize, spoilt: usize) -> Result<Bill, Refusal> {
+    Ok(Bill {
+        energy,
+        billed,
+        spoilt,
+    })
 }

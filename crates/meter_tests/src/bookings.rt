@@ -1,5 +1,5 @@
 //! Bookings that are refused, and what each leaves; the scratch; the largest book.
-use crate::bench::{self, Known, Line};
+use crate::bench::{self, Known};
 use book::book::Book;
 use chip::entry::Entry;
 use chip::make::Make;
@@ -29,9 +29,9 @@ fn refused<W: Wire>(
     let condition = meter.condition();
     let answer = meter.book(slip, book, &mut scratch[..length]);
     let slip = bench::unbooked(rt, answer, expected);
-    assert_eq!(rt; (slip.meter(), slip.draw()), numbers);
-    assert_eq!(rt; meter.condition(), condition);
-    assert_eq!(rt; scratch, [FILL; 40]);
+    checks::same(rt, (slip.meter(), slip.draw()), numbers);
+    checks::same(rt, meter.condition(), condition);
+    checks::same(rt, scratch, [FILL; 40]);
     slip
 }
 
@@ -53,7 +53,7 @@ fn then_a_full_book<W: Wire>(rt: &impl Abort, meter: &mut Meter<W>, slip: Slip) 
     let mut full = Book::new(&mut places, 1);
     let slip = refused(rt, meter, slip, &mut full, 31, Refusal::Limits);
     let slip = refused(rt, meter, slip, &mut full, 32, Refusal::Full);
-    assert_eq!(rt; Line::of(places[0]), Line::of(Entry::EMPTY));
+    checks::same(rt, places[0], Entry::EMPTY);
     slip
 }
 
@@ -71,19 +71,15 @@ fn refusals_in_order<M: Known>(rt: &impl Abort) {
     let mut places = [Entry::EMPTY; 1];
     let mut book = Book::new(&mut places, 0);
     let slip = refused(rt, &mut meter, slip, &mut book, 32, bench::failure(1, 0x02));
-    let line = bench::book(rt, &mut meter, slip, &mut book);
-    assert_eq!(rt; line, Line::sound::<M>(1, 1, [0, 0, 0]));
+    let entry = bench::book(rt, &mut meter, slip, &mut book);
+    checks::same(rt, entry, bench::sound::<M>(1, 1, [0, 0, 0]));
     let _ = other.release();
     let _ = meter.release();
 }
 
 #[test]
-fn refusals_in_order_on_a_193x(rt: HostRuntime) {
+fn refusals_in_order_on_both_makes(rt: HostRuntime) {
     refusals_in_order::<Pac193x>(&rt);
-}
-
-#[test]
-fn refusals_in_order_on_a_194x(rt: HostRuntime) {
     refusals_in_order::<Pac194x>(&rt);
 }
 
@@ -97,23 +93,20 @@ fn the_largest_book<M: Known>(rt: &impl Abort) {
     let slip = refused(rt, &mut meter, slip, &mut book, 32, Refusal::Limits);
     let mut places = [Entry::EMPTY; 4096];
     let mut book = Book::new(&mut places, 4095);
-    let line = bench::book(rt, &mut meter, slip, &mut book);
-    assert_eq!(rt;
-        bench::billed(rt, meter.bill(&book, 1, 100)),
-        (M::ENERGY, 4096, 0)
+    let entry = bench::book(rt, &mut meter, slip, &mut book);
+    checks::same(
+        rt,
+        meter.bill(&book, 1, 100),
+        bench::bill(M::ENERGY, 4096, 0),
     );
-    assert_eq!(rt; Line::of(places[4095]), line);
-    assert_eq!(rt; Line::of(places[4094]), Line::of(Entry::EMPTY));
+    checks::same(rt, places[4095], entry);
+    checks::same(rt, places[4094], Entry::EMPTY);
     let _ = meter.release();
 }
 
 #[test]
-fn the_largest_book_on_a_193x(rt: HostRuntime) {
+fn the_largest_book_on_both_makes(rt: HostRuntime) {
     the_largest_book::<Pac193x>(&rt);
-}
-
-#[test]
-fn the_largest_book_on_a_194x(rt: HostRuntime) {
     the_largest_book::<Pac194x>(&rt);
 }
 
@@ -157,7 +150,7 @@ fn laid(rt: &impl Abort, replies: &[&[u8]]) -> [u8; 40] {
 // A meter whose second stretch is one cycle under a set-up, with that stretch's slip.
 fn second_stretch<M: Make>(rt: &impl Abort) -> (bench::Faulty<M>, Slip) {
     let mut meter = bench::faulty::<M>(1, 0);
-    assert_eq!(rt; meter.set_up(3, 5, 2), Ok(()));
+    checks::same(rt, meter.set_up(3, 5, 2), Ok(()));
     let slip = bench::drawn(rt, &mut meter);
     bench::write_off(rt, &mut meter, slip);
     bench::cycles(&mut meter, 1);
@@ -174,14 +167,14 @@ fn scratch_after<M: Replies>(rt: &impl Abort, outcome: u8) {
     bench::script(rt, &mut meter, &[outcome, 0, outcome]);
     let answer = meter.book(slip, &mut book, &mut scratch);
     let slip = bench::unbooked(rt, answer, bench::failure(outcome, 0x02));
-    assert_eq!(rt; scratch, [FILL; 40]);
+    checks::same(rt, scratch, [FILL; 40]);
     let answer = meter.book(slip, &mut book, &mut scratch);
     let slip = bench::unbooked(rt, answer, bench::failure(outcome, M::SETTINGS));
-    assert_eq!(rt; scratch, laid(rt, &[M::FIRST]));
-    let line = bench::entered(rt, meter.book(slip, &mut book, &mut scratch));
-    assert_eq!(rt; scratch, laid(rt, &[M::FIRST, M::SECOND]));
-    assert_eq!(rt; line, Line::sound::<M>(2, 1, [3, 5, 2]));
-    assert_eq!(rt; Line::of(places[0]), line);
+    checks::same(rt, scratch, laid(rt, &[M::FIRST]));
+    let entry = bench::entered(rt, meter.book(slip, &mut book, &mut scratch));
+    checks::same(rt, scratch, laid(rt, &[M::FIRST, M::SECOND]));
+    checks::same(rt, entry, bench::sound::<M>(2, 1, [3, 5, 2]));
+    checks::same(rt, places[0], entry);
     let _ = meter.release();
 }
 
@@ -192,11 +185,7 @@ fn every_scratch<M: Replies>(rt: &impl Abort) {
 }
 
 #[test]
-fn every_scratch_on_a_193x(rt: HostRuntime) {
+fn every_scratch_on_both_makes(rt: HostRuntime) {
     every_scratch::<Pac193x>(&rt);
-}
-
-#[test]
-fn every_scratch_on_a_194x(rt: HostRuntime) {
     every_scratch::<Pac194x>(&rt);
 }

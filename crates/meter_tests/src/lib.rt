@@ -7,15 +7,9 @@ mod bench;
 #[cfg(test)]
 mod bookings;
 #[cfg(test)]
-mod conservation;
-#[cfg(test)]
-mod listing;
-#[cfg(test)]
 mod looks;
 #[cfg(test)]
 mod numbers;
-#[cfg(test)]
-mod settings;
 #[cfg(test)]
 mod slips;
 #[cfg(test)]

@@ -1,5 +1,5 @@
 //! What looks show, when they are refused, and what they leave.
-use crate::bench::{self, Faulty, Known, Line};
+use crate::bench::{self, Faulty, Known};
 use chip::refusal::Refusal;
 use chip::state::Codes;
 use makes::pac193x::Pac193x;
@@ -77,7 +77,7 @@ fn shows<W: Wire>(rt: &impl Abort, meter: &mut Meter<W>, expected: [f64; 4]) {
 
 // A two-way mask put in force by a draw.
 fn in_force<W: Wire>(rt: &impl Abort, meter: &mut Meter<W>, two_way: u8) {
-    assert_eq!(rt; meter.set_up(0, 0, two_way), Ok(()));
+    checks::same(rt, meter.set_up(0, 0, two_way), Ok(()));
     let slip = bench::drawn(rt, meter);
     bench::write_off(rt, meter, slip);
 }
@@ -95,7 +95,7 @@ fn what_looks_show<M: Seen>(rt: &impl Abort) {
     shows(rt, &mut meter, ONE_WAY);
     in_force(rt, &mut meter, 10);
     shows(rt, &mut meter, MIXED);
-    assert_eq!(rt; meter.set_up(0, 0, 15), Ok(()));
+    checks::same(rt, meter.set_up(0, 0, 15), Ok(()));
     shows(rt, &mut meter, MIXED);
     in_force(rt, &mut meter, 15);
     shows(rt, &mut meter, TWO_WAY);
@@ -103,12 +103,8 @@ fn what_looks_show<M: Seen>(rt: &impl Abort) {
 }
 
 #[test]
-fn what_looks_show_on_a_193x(rt: HostRuntime) {
+fn what_looks_show_on_both_makes(rt: HostRuntime) {
     what_looks_show::<Pac193x>(&rt);
-}
-
-#[test]
-fn what_looks_show_on_a_194x(rt: HostRuntime) {
     what_looks_show::<Pac194x>(&rt);
 }
 
@@ -116,27 +112,31 @@ fn what_looks_show_on_a_194x(rt: HostRuntime) {
 fn refused<W: Wire>(rt: &impl Abort, meter: &mut Meter<W>, expected: Refusal) {
     let condition = meter.condition();
     for (channel, quantity) in [(0, 0), (5, 1), (255, 0), (1, 2), (4, 255)] {
-        assert_eq!(rt; meter.look(channel, quantity).err(), Some(Refusal::Limits));
+        checks::same(
+            rt,
+            meter.look(channel, quantity).err(),
+            Some(Refusal::Limits),
+        );
     }
     for (channel, quantity) in [(1, 0), (4, 1)] {
-        assert_eq!(rt; meter.look(channel, quantity).err(), Some(expected));
+        checks::same(rt, meter.look(channel, quantity).err(), Some(expected));
     }
-    assert_eq!(rt; meter.condition(), condition);
+    checks::same(rt, meter.condition(), condition);
 }
 
 // None of these looks takes an outcome: the ones that wait make the next draw fail.
 fn refusals_of_looks<M: Known>(rt: &impl Abort) {
     let mut meter = bench::faulty::<M>(1, 0);
     bench::script(rt, &mut meter, &[1]);
-    assert_eq!(rt; bench::undrawn(rt, &mut meter), bench::failure(1, 0x01));
-    assert_eq!(rt; meter.condition(), Condition::Unfinished);
+    checks::same(rt, bench::undrawn(rt, &mut meter), bench::failure(1, 0x01));
+    checks::same(rt, meter.condition(), Condition::Unfinished);
     bench::script(rt, &mut meter, M::LOST);
     refused(rt, &mut meter, Refusal::NotReady);
-    assert_eq!(rt; bench::undrawn(rt, &mut meter), bench::failure(3, 0x00));
-    assert_eq!(rt; meter.condition(), Condition::InDoubt);
+    checks::same(rt, bench::undrawn(rt, &mut meter), bench::failure(3, 0x00));
+    checks::same(rt, meter.condition(), Condition::InDoubt);
     bench::script(rt, &mut meter, &[1]);
     refused(rt, &mut meter, Refusal::NotReady);
-    assert_eq!(rt; bench::undrawn(rt, &mut meter), bench::failure(1, 0x21));
+    checks::same(rt, bench::undrawn(rt, &mut meter), bench::failure(1, 0x21));
     let slip = bench::drawn(rt, &mut meter);
     refused(rt, &mut meter, Refusal::SlipOut);
     bench::write_off(rt, &mut meter, slip);
@@ -144,12 +144,8 @@ fn refusals_of_looks<M: Known>(rt: &impl Abort) {
 }
 
 #[test]
-fn refusals_of_looks_on_a_193x(rt: HostRuntime) {
+fn refusals_of_looks_on_both_makes(rt: HostRuntime) {
     refusals_of_looks::<Pac193x>(&rt);
-}
-
-#[test]
-fn refusals_of_looks_on_a_194x(rt: HostRuntime) {
     refusals_of_looks::<Pac194x>(&rt);
 }
 
@@ -166,8 +162,8 @@ fn fails<M: Known>(
     }
     bench::script(rt, meter, &[outcome]);
     let answer = meter.look(2, 1).err();
-    assert_eq!(rt; answer, Some(bench::failure(outcome, address)));
-    assert_eq!(rt; meter.condition(), Condition::Ready);
+    checks::same(rt, answer, Some(bench::failure(outcome, address)));
+    checks::same(rt, meter.condition(), Condition::Ready);
 }
 
 // Looks, failed or not, leave the meter ready and every sum as it was.
@@ -181,20 +177,17 @@ fn what_looks_leave<M: Known>(rt: &impl Abort) {
     }
     assert!(rt; millivolts(rt, &mut meter, 1) == 30.517578125);
     bench::cycles(&mut meter, 1);
-    assert_eq!(rt; meter.condition(), Condition::Ready);
-    assert_eq!(rt;
-        bench::next_line(rt, &mut meter),
-        Line::sound::<M>(1, 3, [0, 0, 0])
+    checks::same(rt, meter.condition(), Condition::Ready);
+    checks::same(
+        rt,
+        bench::next_entry(rt, &mut meter),
+        bench::sound::<M>(1, 3, [0, 0, 0]),
     );
     let _ = meter.release();
 }
 
 #[test]
-fn what_looks_leave_on_a_193x(rt: HostRuntime) {
+fn what_looks_leave_on_both_makes(rt: HostRuntime) {
     what_looks_leave::<Pac193x>(&rt);
-}
-
-#[test]
-fn what_looks_leave_on_a_194x(rt: HostRuntime) {
     what_looks_leave::<Pac194x>(&rt);
 }

@@ -10,12 +10,13 @@ use std::process::Abort;
 fn no_number_left<M: Known>(rt: &impl Abort) {
     let mut meter = bench::faulty::<M>(1, u32::MAX);
     bench::script(rt, &mut meter, &[1]);
-    assert_eq!(rt; bench::undrawn(rt, &mut meter), Refusal::NumbersSpent);
-    assert_eq!(rt; meter.condition(), Condition::Ready);
-    assert_eq!(rt; meter.last(), u32::MAX);
-    assert_eq!(rt;
+    checks::same(rt, bench::undrawn(rt, &mut meter), Refusal::NumbersSpent);
+    checks::same(rt, meter.condition(), Condition::Ready);
+    checks::same(rt, meter.last(), u32::MAX);
+    checks::same(
+        rt,
         meter.look(1, 0).err(),
-        Some(Refusal::NotAcknowledged(Who::Wire, 0x1f))
+        Some(Refusal::NotAcknowledged(Who::Wire, 0x1f)),
     );
     let _ = meter.release();
 }
@@ -25,13 +26,13 @@ fn one_number_left<M: Known>(rt: &impl Abort, outcomes: &[u8]) {
     let mut meter = bench::faulty::<M>(1, u32::MAX - 1);
     if !outcomes.is_empty() {
         bench::script(rt, &mut meter, outcomes);
-        assert_eq!(rt; bench::undrawn(rt, &mut meter), Refusal::Broken(0x00));
+        checks::same(rt, bench::undrawn(rt, &mut meter), Refusal::Broken(0x00));
     }
     let slip = bench::drawn(rt, &mut meter);
-    assert_eq!(rt; slip.draw(), u32::MAX);
-    assert_eq!(rt; bench::undrawn(rt, &mut meter), Refusal::SlipOut);
+    checks::same(rt, slip.draw(), u32::MAX);
+    checks::same(rt, bench::undrawn(rt, &mut meter), Refusal::SlipOut);
     bench::write_off(rt, &mut meter, slip);
-    assert_eq!(rt; bench::undrawn(rt, &mut meter), Refusal::NumbersSpent);
+    checks::same(rt, bench::undrawn(rt, &mut meter), Refusal::NumbersSpent);
     let _ = meter.release();
 }
 
@@ -43,11 +44,7 @@ fn the_last_numbers<M: Known>(rt: &impl Abort) {
 }
 
 #[test]
-fn the_last_numbers_on_a_193x(rt: HostRuntime) {
+fn the_last_numbers_on_both_makes(rt: HostRuntime) {
     the_last_numbers::<Pac193x>(&rt);
-}
-
-#[test]
-fn the_last_numbers_on_a_194x(rt: HostRuntime) {
     the_last_numbers::<Pac194x>(&rt);
 }

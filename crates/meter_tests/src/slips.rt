@@ -1,5 +1,5 @@
-//! Slips offered to a meter that did not hand them out, and slips written off.
-use crate::bench::{self, Faulty, Known, Line};
+//! Slips offered to a meter that did not hand them out.
+use crate::bench::{self, Faulty, Known};
 use book::book::Book;
 use chip::entry::Entry;
 use chip::refusal::Refusal;
@@ -23,12 +23,12 @@ fn refused<W: Wire>(
     let mut book = Book::new(&mut places, 0);
     let answer = meter.book(slip, &mut book, &mut [0; 32]);
     let slip = bench::unbooked(rt, answer, Refusal::WrongSlip);
-    assert_eq!(rt; (slip.meter(), slip.draw()), expected);
+    checks::same(rt, (slip.meter(), slip.draw()), expected);
     let slip = bench::unwritten(rt, meter.write_off(slip), Refusal::WrongSlip);
-    assert_eq!(rt; (slip.meter(), slip.draw()), expected);
-    assert_eq!(rt; meter.condition(), condition);
-    assert_eq!(rt; meter.write_offs(), 0);
-    assert_eq!(rt; Line::of(places[0]), Line::of(Entry::EMPTY));
+    checks::same(rt, (slip.meter(), slip.draw()), expected);
+    checks::same(rt, meter.condition(), condition);
+    checks::same(rt, meter.write_offs(), 0);
+    checks::same(rt, places[0], Entry::EMPTY);
     slip
 }
 
@@ -42,10 +42,10 @@ fn crosswise<M: Known>(rt: &impl Abort, number: u32, last: u32, draw: u32) {
     let slip = refused(rt, &mut second, slip, (1, 1));
     let other = refused(rt, &mut first, other, (number, draw));
     bench::write_off(rt, &mut first, slip);
-    assert_eq!(rt; first.write_offs(), 1);
+    checks::same(rt, first.write_offs(), 1);
     let mut places = [Entry::EMPTY; 1];
-    let line = bench::book(rt, &mut second, other, &mut Book::new(&mut places, 0));
-    assert_eq!(rt; line, Line::sound::<M>(draw, 1, [0, 0, 0]));
+    let entry = bench::book(rt, &mut second, other, &mut Book::new(&mut places, 0));
+    checks::same(rt, entry, bench::sound::<M>(draw, 1, [0, 0, 0]));
     let _ = first.release();
     let _ = second.release();
 }
@@ -58,7 +58,7 @@ fn with_none_out<M: Known>(rt: &impl Abort, outcomes: &[u8], condition: Conditio
         bench::script(rt, &mut second, outcomes);
         let _ = bench::undrawn(rt, &mut second);
     }
-    assert_eq!(rt; second.condition(), condition);
+    checks::same(rt, second.condition(), condition);
     let slip = bench::drawn(rt, &mut first);
     let slip = refused(rt, &mut second, slip, (1, 1));
     bench::write_off(rt, &mut first, slip);
@@ -76,44 +76,7 @@ fn wrong_slips<M: Known>(rt: &impl Abort) {
 }
 
 #[test]
-fn wrong_slips_on_a_193x(rt: HostRuntime) {
+fn wrong_slips_on_both_makes(rt: HostRuntime) {
     wrong_slips::<Pac193x>(&rt);
-}
-
-#[test]
-fn wrong_slips_on_a_194x(rt: HostRuntime) {
     wrong_slips::<Pac194x>(&rt);
-}
-
-// A stretch given up leaves no entry; the next draw has the next number.
-fn written_off<M: Known>(rt: &impl Abort) {
-    let mut meter = bench::plain::<M>(1, 0);
-    bench::cycles(&mut meter, 3);
-    let slip = bench::drawn(rt, &mut meter);
-    bench::write_off(rt, &mut meter, slip);
-    assert_eq!(rt; meter.write_offs(), 1);
-    assert_eq!(rt; meter.condition(), Condition::Ready);
-    bench::cycles(&mut meter, 1);
-    let slip = bench::drawn(rt, &mut meter);
-    let mut places = [Entry::EMPTY; 2];
-    let mut book = Book::new(&mut places, 0);
-    let expected = Line::sound::<M>(2, 1, [0, 0, 0]);
-    assert_eq!(rt; bench::book(rt, &mut meter, slip, &mut book), expected);
-    assert_eq!(rt;
-        bench::billed(rt, meter.bill(&book, 1, 100)),
-        (M::ENERGY, 1, 0)
-    );
-    assert_eq!(rt; meter.write_offs(), 1);
-    assert_eq!(rt; Line::of(places[0]), expected);
-    let _ = meter.release();
-}
-
-#[test]
-fn written_off_on_a_193x(rt: HostRuntime) {
-    written_off::<Pac193x>(&rt);
-}
-
-#[test]
-fn written_off_on_a_194x(rt: HostRuntime) {
-    written_off::<Pac194x>(&rt);
 }
