@@ -20,7 +20,7 @@ use Rattle.busy.specs.Quiet.{Alike, ImageAlone, came, cycled_by}
 use Rattle.busy.specs.Runs.{BusyReached, busy_call, busy_cycle, busy_made}
 use Rattle.busy.specs.Statements.{BusyIsQuiet, EveryBusyRun}
 
-abbrev Whole : List (List Codes) → Type 0
+abbrev pub Whole : List (List Codes) → Type 0
 Whole kss = Every (λ ks. length ks ≡ 4) kss
 
 by_asked : (q : Request) (kss jss : List (List Codes)) → Whole kss → Whole jss → Whole (elim q [ read a n ↦ kss | write a bs ↦ kss | send a ↦ jss ])

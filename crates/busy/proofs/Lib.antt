@@ -4,3 +4,4 @@ pub mod Calms
 pub mod Quieting
 pub mod Assembly
 pub mod Benches
+pub mod Wires
