@@ -1,24 +1,25 @@
 -- A busy run has a plain run of the same account, and so all that holds of plain runs.
-use Rattle.std.proofs.Common.{◌≡◌, ℕ, cond, List, [], ◌∷◌, length, sym, refl, ap, ◌∙◌, subst}
+use Rattle.std.proofs.Common.{◌≡◌, ℕ, Bool, true, cond, ◌&&◌, List, [], ◌∷◌, length, sym, refl, ap, ◌∙◌, subst, ap₂}
 use Rattle.chip.specs.Chip.{Request, read, send, write}
-use Rattle.chip.specs.Datasheet.{Datasheet}
+use Rattle.chip.specs.Datasheet.{Datasheet, meaning}
 use Rattle.chip.specs.Laws.{Every, Lawful}
 use Rattle.chip.specs.declared.entry.Entry.{Entry}
 use Rattle.chip.specs.declared.state.Codes.{Codes}
 use Rattle.chip.specs.declared.state.State.{State}
 use Rattle.account.proofs.Assembly.{every_run}
 use Rattle.account.proofs.Manners.{every_call}
-use Rattle.account.specs.Dialogue.{Follows, Meter, dialogue}
-use Rattle.account.specs.History.{History, Reached, account, called, carried_in, carried_out, cycle_came, cycle_passed, entries_after, happened_after, made}
-use Rattle.account.specs.Statements.{Accounted, HeldAt, Numbered, RunsWell, Settled, Statements, Steady, given, off_count}
+use Rattle.account.specs.Dialogue.{Follows, Meter, dialogue, draws, looks}
+use Rattle.account.specs.History.{History, Reached, account, called, carried_in, carried_out, cycle_came, cycle_passed, entries_after, happened_after, is_refresh, made}
+use Rattle.account.specs.Statements.{Accounted, HeldAt, Numbered, RunsWell, Settled, Statements, Steady, given, off_count, refresh_carried}
 use Rattle.account.specs.Steps.{Along, Step, goes_on, stays}
-use Rattle.busy.proofs.Calms.{calm_call, calm_look}
+use Rattle.busy.proofs.Calms.{calm_call, calm_draws, calm_look}
+use Rattle.busy.proofs.Chips.{cycled_by_active}
 use Rattle.busy.proofs.Histories.{alike, alike_came, alike_carried, alike_happened, alike_on, alike_then, happened_past}
-use Rattle.busy.proofs.Quieting.{quiet}
+use Rattle.busy.proofs.Moving.{moved_out}
 use Rattle.busy.specs.Events.{Event, Through, after_send, at_end, before_send, by_conversion, by_transaction, conversion, cycles_in, happened_in, just, steps_in, transaction}
-use Rattle.busy.specs.Quiet.{Alike, ImageAlone, came, cycled_by}
+use Rattle.busy.specs.Plain.{Alike, ImageAlone, came, cycled_by, requests_of}
 use Rattle.busy.specs.Runs.{BusyReached, busy_call, busy_cycle, busy_made}
-use Rattle.busy.specs.Statements.{BusyIsQuiet, EveryBusyRun}
+use Rattle.busy.specs.Statements.{BusyIsPlain, EveryBusyCall, EveryBusyRun}
 
 abbrev pub Whole : List (List Codes) → Type 0
 Whole kss = Every (λ ks. length ks ≡ 4) kss
@@ -58,7 +59,7 @@ module _ (m : Datasheet) where
       plain (busy_cycle ks l b) = let p = plain b in (cycle_came ks ∷ p.0, cycle_passed ks l p.1, alike_on m (cycle_came ks) p.2)
       plain (busy_call {t} {t'} {c} {c'} {es} {h} {vs} {r} q b f th) =
           let p = plain b in
-          let k = quiet m (dialogue m q t places es) vs (calm_call m t law alone q places es) f th in
+          let k = moved_out m (dialogue m q t places es) vs (calm_call m t law alone q places es) f th in
           let on = called q (cycles_passed (before_send vs) (whole_before vs th) p.1) k.follows k.along in
           let behind = cycles_passed (after_send vs) (whole_after vs th) on in (
             came (after_send vs) (happened_after r (carried_in k.steps (came (before_send vs) p.0))),
@@ -123,11 +124,32 @@ pub every_busy_run : EveryBusyRun
 every_busy_run m law alone places number last t c es h l b =
     let p = plain m law alone b in stated m p.2 (every_run m law places number last t c es p.0 l p.1)
 
-pub busy_is_quiet : BusyIsQuiet
-busy_is_quiet = record {
+-- whether a REFRESH was carried out is told by the requests
+refresh_told : (m : Datasheet) (ss vv : List Step) → requests_of ss ≡ requests_of vv → refresh_carried m ss ≡ refresh_carried m vv
+refresh_told m [] [] e = refl
+refresh_told m [] (v ∷ vv) e = cc
+refresh_told m (s ∷ ss) [] e = cc
+refresh_told m (s ∷ ss) (v ∷ vv) e =
+    let rest : requests_of ss ≡ requests_of vv = cc in
+    let first : ◌≡◌ {A = Request × Bool} (s.asked, s.carried) (v.asked, v.carried) = cc in
+    ap₂ (λ x y. cond x true y) (ap (λ p. is_refresh m p.0 && p.1) first) (refresh_told m ss vv rest)
+
+pub every_busy_call : EveryBusyCall
+every_busy_call m law = record {
+  obeys = λ t t' c c' vs r ok f th yes-refresh.
+      let k = moved_out m (draws m t) vs (calm_draws m t law t.condition) f th in
+      let obeyed = (every_call m law).obeys t t' (cycled_by m (before_send vs) c) k.left k.steps r ok k.follows k.along
+      (refresh_told m k.steps (steps_in vs) k.requests ∙ yes-refresh) in
+      ap (meaning m) (ap (λ x. x.active) (sym k.behind) ∙ cycled_by_active m (after_send vs) k.left) ∙ obeyed;
+  looks_true = λ t t' c c' ch q vs g f th.
+      let k = moved_out m (looks m t ch q) vs (calm_look m t law ch q) f th in
+      let seen = (every_call m law).looks_true t t' (cycled_by m (before_send vs) c) k.left ch q k.steps g k.follows k.along in
+      record { bus = seen.bus; sense = seen.sense; meter = seen.meter };
+}
+
+pub busy_is_plain : BusyIsPlain
+busy_is_plain = record {
   runs = λ m law alone places number last t c es h b. plain m law alone b;
-  calls = λ m law alone q t places es t' r c c' vs f th. quiet m (dialogue m q t places es) vs (calm_call m t law alone q places es) f th;
-  looks = λ m law t t' c c' ch q vs g f th. let k = quiet m _ vs (calm_look m t law ch q) f th in
-      (k.left, (every_call m law).looks_true t t' _ k.left ch q k.steps g k.follows k.along);
-  plain = λ m places number last t c es h r. busy m r;
+  calls = λ m law alone q t places es t' r c c' vs f th. moved_out m (dialogue m q t places es) vs (calm_call m t law alone q places es) f th;
+  plain_is_busy = λ m places number last t c es h r. busy m r;
 }

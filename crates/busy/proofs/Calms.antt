@@ -10,7 +10,7 @@ use Rattle.chip.specs.declared.state.State.{State}
 use Rattle.wire.specs.Wire.{Reply, answered, broken, unacknowledged}
 use Rattle.account.specs.Dialogue.{Call, Condition, Meter, Slip, Way, asks, asks_mark, at, bill_for, book, book_limits, books, dialogue, draw, draws_at, ends, entered, fits_slip, gathers, hands, if_numbers_left, in_doubt, look, look_limits, looked, looks, looks_at, millivolts, or_fails, reads_at, ready, refreshes, sees, set_up, sets, slip_out, unfinished, unlike, volts, write_off}
 use Rattle.busy.proofs.Chips.{SameOn}
-use Rattle.busy.specs.Quiet.{ImageAlone}
+use Rattle.busy.specs.Plain.{ImageAlone}
 
 module _ (m : Datasheet) where
   -- it only reads
@@ -58,7 +58,7 @@ module _ (m : Datasheet) where
     calm_numbers s p = calm_cond (eqb t.last 4294967295) _ s tt p
 
     module _ (law : Lawful m) where
-      calm_draws : (k : Condition) → Calm (draws_at m t k)
+      pub calm_draws : (k : Condition) → Calm (draws_at m t k)
       calm_draws ready = calm_numbers (refreshes m t) (calm_sets (m.settings_writes t.wanted (not t.mark)))
       calm_draws unfinished = calm_numbers (refreshes m t) (calm_sets (m.settings_writes t.wanted (not t.mark)))
       calm_draws in_doubt = calm_numbers (asks_mark m t) (

@@ -10,7 +10,7 @@ use Rattle.chip.specs.declared.state.Settings.{Settings}
 use Rattle.chip.specs.declared.state.State.{State}
 use Rattle.account.specs.History.{chip_then}
 use Rattle.wire.specs.Wire.{Reply, Went, answered, broke_after, broke_before, broken, by_chip, by_wire, done}
-use Rattle.busy.specs.Quiet.{cycled_by}
+use Rattle.busy.specs.Plain.{cycled_by}
 
 -- a chip with another running part
 abbrev pub on_with : State → Running → State

@@ -11,7 +11,7 @@ use Rattle.account.specs.History.{Account, Closed, Fate, Happening, History, Str
 use Rattle.account.specs.Statements.{all_products}
 use Rattle.account.specs.Steps.{Step}
 use Rattle.busy.proofs.Chips.{cycle_past_write, read_keeps, write_keeps}
-use Rattle.busy.specs.Quiet.{Alike, came}
+use Rattle.busy.specs.Plain.{Alike, came}
 
 -- a request that does not latch
 abbrev pub Still : Request → Type 0

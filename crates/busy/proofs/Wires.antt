@@ -14,7 +14,7 @@ use Rattle.account.specs.Statements.{Statements}
 use Rattle.account.specs.Steps.{Step, Trip, at_rest, onward}
 use Rattle.busy.proofs.Assembly.{Whole, every_busy_run}
 use Rattle.busy.specs.Events.{Event, Through, at_end, by_conversion, by_transaction, conversion, happened_in, steps_in, transaction}
-use Rattle.busy.specs.Quiet.{ImageAlone, cycled_by}
+use Rattle.busy.specs.Plain.{ImageAlone, cycled_by}
 use Rattle.busy.specs.Runs.{BusyReached, busy_call, busy_cycle, busy_made}
 use Rattle.busy.specs.Wires.{Among, BusyCallMade, CarriesBusyRuns, Idles, IsBusyWire, WentAmong, idles, still}
 

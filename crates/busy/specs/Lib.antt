@@ -1,7 +1,8 @@
 pub mod Events
 pub mod Runs
-pub mod Quiet
+pub mod Plain
 pub mod Statements
 pub mod Wires
 pub mod Worked
+pub mod Turning
 pub mod Theorems

@@ -2,7 +2,7 @@
 use Rattle.makes.specs.Pac193x.{pac193x}
 use Rattle.makes.specs.Pac194x.{pac194x}
 use Rattle.account.specs.Single.{single}
-use Rattle.busy.specs.Quiet.{ImageAlone}
+use Rattle.busy.specs.Plain.{ImageAlone}
 use Rattle.busy.specs.Worked.{BusyRun}
 
 -- both real makes owe no more than they keep, and so does the small one of a single channel

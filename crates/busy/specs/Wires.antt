@@ -13,7 +13,7 @@ use Rattle.account.specs.Calls.{MadeSteps}
 use Rattle.account.specs.Statements.{Statements}
 use Rattle.busy.specs.Events.{Event, steps_in, Through, happened_in}
 use Rattle.busy.specs.Runs.{BusyReached}
-use Rattle.busy.specs.Quiet.{cycled_by}
+use Rattle.busy.specs.Plain.{cycled_by}
 
 -- a transaction at a chip that converts on: some cycles, then what it may come to on any wire, then some cycles
 pub record WentAmong (m : Datasheet) (c : State) (q : Request) (carried : Bool) (r : Reply) (c' : State) : Type 0 where

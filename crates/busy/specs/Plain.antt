@@ -1,15 +1,15 @@
--- What it means that a busy run is as good as a plain one.
-use Rattle.std.specs.Prelude.{◌≡◌, ℕ, List, [], ◌∷◌}
+-- A plain run is one whose cycles come between the calls alone. What it means that a busy run is as good as one.
+use Rattle.std.specs.Prelude.{◌≡◌, ℕ, Bool, List, [], ◌∷◌}
 use Rattle.chip.specs.declared.state.Codes.{Codes}
 use Rattle.chip.specs.declared.state.State.{State}
-use Rattle.chip.specs.Chip.{cycled, reply}
+use Rattle.chip.specs.Chip.{Request, cycled, reply}
 use Rattle.chip.specs.Datasheet.{Datasheet}
 use Rattle.chip.specs.Laws.{Every}
 use Rattle.account.specs.Steps.{Step, Along}
 use Rattle.account.specs.Dialogue.{Meter, Answer, Way, Follows}
 use Rattle.account.specs.History.{History, cycle_came, carried_out, booked, written_off, chip_after, account, carried_in}
 use Rattle.account.specs.Statements.{all_products}
-use Rattle.busy.specs.Events.{Event, before_send, after_send, happened_in}
+use Rattle.busy.specs.Events.{Event, steps_in, before_send, after_send, happened_in}
 
 -- what a make owes here, beside the laws of a make: the registers that a booking reads show the image, whatever the rest of the chip is.
 -- Without it one half of an image could be told by the other half and by a register that turns with each cycle
@@ -49,11 +49,17 @@ pub record Alike (m : Datasheet) (h h' : History) : Type 0 where
   pub accounts : account m h ≡ account m h'
   pub products : (i : ℕ) → all_products m i h ≡ all_products m i h'
 
+-- what was asked, in order, and whether the chip carried it out
+abbrev pub requests_of : List Step → List (Request × Bool)
+requests_of [] = []
+requests_of (s ∷ ss) = (s.asked, s.carried) ∷ requests_of ss
+
 -- a call along some events is a call at a chip that stands still, of the same answer, meter and requests,
 -- after the cycles that came before its REFRESH or REFRESH_V was sent, and before those that came after it
-pub record QuietCall (m : Datasheet) (s : Way) (t : Meter) (r : Answer) (c : State) (vs : List Event) (c' : State) : Type 0 where
+pub record PlainCall (m : Datasheet) (s : Way) (t : Meter) (r : Answer) (c : State) (vs : List Event) (c' : State) : Type 0 where
   pub steps : List Step
   pub follows : Follows s steps (t, r)
+  pub requests : requests_of steps ≡ requests_of (steps_in vs)
   pub left : State
   pub along : Along m (cycled_by m (before_send vs) c) steps left
   pub behind : cycled_by m (after_send vs) left ≡ c'
