@@ -8,7 +8,7 @@ use Rattle.wire.specs.Wire.{done}
 use Rattle.busy.specs.Events.{at_end, by_conversion, by_transaction}
 use Rattle.busy.specs.Runs.{busy_call, busy_made}
 use Rattle.busy.specs.Theorems.{BusyRunsThereAre}
-use Rattle.busy.specs.Worked.{BusyRun, first_slip}
+use Rattle.busy.specs.Worked.{BusyLook, BusyRun, first_slip}
 
 busy_193 : BusyRun pac193x
 busy_193 = record {
@@ -68,5 +68,27 @@ busy_194 = record {
   running = refl;
 }
 
+look_193 : BusyLook pac193x
+look_193 = record {
+  taken = _;
+  code_read = _;
+  t = _;
+  c = _;
+  looks = stepped (stepped ended);
+  through = by_transaction (done refl) (by_conversion (on_one 100 100) refl (by_transaction (done refl) at_end));
+  later = refl;
+}
+
+look_194 : BusyLook pac194x
+look_194 = record {
+  taken = _;
+  code_read = _;
+  t = _;
+  c = _;
+  looks = stepped (stepped ended);
+  through = by_transaction (done refl) (by_conversion (on_one 100 100) refl (by_transaction (done refl) at_end));
+  later = refl;
+}
+
 pub busy_runs_there_are : BusyRunsThereAre
-busy_runs_there_are = record { on_193x = busy_193; on_194x = busy_194 }
+busy_runs_there_are = record { on_193x = busy_193; on_194x = busy_194; look_193x = look_193; look_194x = look_194 }

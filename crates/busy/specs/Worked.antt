@@ -1,12 +1,12 @@
--- Runs with cycles in the midst of a draw and of a booking.
+-- Calls with cycles in their midst: a draw, a booking and a look.
 use Rattle.std.specs.Prelude.{◌≡◌, false, List, [], ◌∷◌, ◌++◌, pos, slice_index_or}
 use Rattle.chip.specs.declared.state.State.{State}
 use Rattle.chip.specs.declared.entry.Entry.{Entry}
-use Rattle.chip.specs.Chip.{fresh_chip, send}
+use Rattle.chip.specs.Chip.{channel, cycled, fresh_chip, send}
 use Rattle.chip.specs.Datasheet.{Datasheet}
 use Rattle.makes.specs.Figures.{on_one, codes}
 use Rattle.account.specs.Steps.{Step}
-use Rattle.account.specs.Dialogue.{Meter, Slip, new_meter, handed, entered, Follows, draw, book, dialogue}
+use Rattle.account.specs.Dialogue.{Meter, Slip, volts, new_meter, handed, entered, looked, Follows, draw, book, look, dialogue}
 use Rattle.account.specs.History.{happened_after}
 use Rattle.busy.specs.Events.{Event, transaction, conversion, just, Through, happened_in}
 use Rattle.busy.specs.Runs.{BusyReached}
@@ -45,3 +45,14 @@ pub record BusyRun (m : Datasheet) : Type 0 where
   pub counted : e.count ≡ 1
   pub sum : slice_index_or e.sums 0 (pos 0) ≡ m.product 0 false (codes 40000 20000)
   pub running : c.running.count ≡ 1
+
+-- a look with a cycle between its REFRESH_V and its read: it shows the code from before
+pub record BusyLook (m : Datasheet) : Type 0 where
+  pub taken : Step
+  pub code_read : Step
+  pub t : Meter
+  pub c : State
+  pub looks : Follows (dialogue m (look 1 0) (new_meter 1 0) 64 []) (taken ∷ code_read ∷ []) (t, looked (volts 40000))
+  pub through : Through m (cycled m (on_one 40000 20000) (fresh_chip m))
+      (transaction taken ∷ conversion (on_one 100 100) ∷ transaction code_read ∷ []) c
+  pub later : (channel 0 c.running).latest.bus ≡ 100

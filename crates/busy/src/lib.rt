@@ -37,7 +37,8 @@ pub fn the_laws_are_not_enough()
     ensures { LawsNotEnough }
 {}
 
-/// The statements speak of something: a cycle in the midst of a draw is in that draw's entry, one in the midst of its booking is not.
+/// The statements speak of something: a cycle in the midst of a draw is in that draw's entry, one in the midst of its booking is not; and a look shows
+/// the code from before a cycle in its midst.
 pub fn there_are_busy_runs()
     ensures { BusyRunsThereAre }
 {}
