@@ -4,7 +4,7 @@ use Rattle.std.proofs.lemmas.Bool.{cases_Bool, eqb-true}
 use Rattle.makes.specs.Figures.{on_one}
 use Rattle.makes.specs.Layouts.{same_entry}
 use Rattle.makes.specs.Table.{bit}
-use Rattle.chip.specs.Chip.{entry_of}
+use Rattle.chip.specs.Chip.{entry_of, spoilt}
 use Rattle.chip.specs.Laws.{Lawful, Readable, Sound, replies}
 use Rattle.chip.specs.Registers.{big_endian, number}
 use Rattle.chip.specs.declared.state.State.{State}
@@ -14,7 +14,7 @@ use Rattle.account.specs.Dialogue.{book, draw, ended, stepped}
 use Rattle.busy.specs.Events.{at_end, by_conversion, by_transaction}
 use Rattle.busy.specs.Runs.{busy_call, busy_made}
 use Rattle.busy.specs.Statements.{EveryBusyRunOf}
-use Rattle.busy.specs.Turning.{LawsNotEnough, turning}
+use Rattle.busy.specs.Turning.{LawsNotEnough, turning, upright}
 use Rattle.busy.specs.Worked.{first_slip}
 
 narrow : (a : ℕ) → turning.width a ≤ 8
@@ -42,7 +42,7 @@ entry_ok : (c : State) (n : ℕ) → Sound turning c.image.running → turning.e
 entry_ok c n ok =
     let e = lawful_single.entry_read c n (record { four = ok.four; count = ok.count; sums = ok.sums; rest = ok.rest }) in
     same_entry (turning.entry_in (replies turning c turning.booking_reads) n) (entry_of turning c.image n) refl
-    (mark_told (eqb c.running.count 0) (c.image.running.sum_flag || c.image.running.count_flag))
+    (mark_told (upright c) (spoilt c.image.running))
     (ap (λ x. x.count) e) (ap (λ x. x.rate) e) (ap (λ x. x.off) e) (ap (λ x. x.two_way) e) (ap (λ x. x.sums) e)
 
 lawful_turning : Lawful turning

@@ -48,6 +48,11 @@ module _ (m : Datasheet) where
         )
 
     module _ (law : Lawful m) (alone : ImageAlone m) where
+      -- with all that holds of it
+      stated : {places number last : ℕ} {t : Meter} {c : State} {es : List Entry} {h : History} → last < 2 ^ 32 → BusyReached m places number last t c es h
+          → BusyReached m places number last t c es h × Statements m places number last t c es h
+      stated {places} {number} {last} {t} {c} {es} {h} small r = (r, every_busy_run m law alone places number last t c es h small r)
+
       call_made : {q : Call} {t : Meter} {u : W} {places : ℕ} {es : List Entry} {s : List ℕ} {t' : Meter} {w : W} {es' : List Entry} {s' : List ℕ} {r : Answer}
           → (made : MadeSteps m goes q t u places es s t' w es' s' r) → BusyCallMade m chip_of made
       call_made {q} {t} {u} {places} {es} {s} {t'} {w} {es'} {s'} {r} st =
@@ -60,13 +65,15 @@ module _ (m : Datasheet) where
           run vs e th number last h l reached =
               let on = subst (λ x. BusyReached m places number last t' (chip_of w) x (happened_after r (happened_in vs h))) (sym st.the_book)
               (busy_call q reached (subst (λ x. Follows (dialogue m q t places es) x (t', r)) (sym e) st.follows) th) in
-              (on, every_busy_run m law alone places number last t' (chip_of w) es' _ l on)
+              stated l on
 
       pub carries_busy_runs : CarriesBusyRuns m chip_of goes passes
       carries_busy_runs = record {
         calls = λ q t u places es s t' w es' s' r made. call_made made;
-        cycles = λ ks t u w places number last es h l p r. subst (λ x. BusyReached m places number last t x es (cycle_came ks ∷ h)) (sym (is.cycle u w ks p)) (busy_cycle ks l r);
-        begins = λ places number last u e. subst (λ x. BusyReached m places number last (new_meter number last) x [] []) (sym e) busy_made;
+        cycles = λ ks t u w places number last es h l p small r. stated small
+            (subst (λ x. BusyReached m places number last t x es (cycle_came ks ∷ h)) (sym (is.cycle u w ks p)) (busy_cycle ks l r));
+        begins = λ places number last u small e. stated small
+            (subst (λ x. BusyReached m places number last (new_meter number last) x [] []) (sym e) busy_made);
       }
 
   module _ {W : Type 0} {chip_of : W → State} {goes : Goes W} {passes : Passes W} (is : IsWire m chip_of goes passes) where

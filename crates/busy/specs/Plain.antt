@@ -11,8 +11,8 @@ use Rattle.account.specs.History.{History, cycle_came, carried_out, booked, writ
 use Rattle.account.specs.Statements.{all_products}
 use Rattle.busy.specs.Events.{Event, steps_in, before_send, after_send, happened_in}
 
--- what a make owes here, beside the laws of a make: the registers that a booking reads show the image, whatever the rest of the chip is.
--- Without it one half of an image could be told by the other half and by a register that turns with each cycle
+-- what a make owes here, beside the laws of a make: the registers that a booking reads show the image, whatever else of the chip changes.
+-- The laws alone allow a make whose registers turn with each cycle and tell an image only together (specs/Turning)
 pub record ImageAlone (m : Datasheet) : Type 0 where
   pub shown : Every (λ p. (c d : State) → c.image ≡ d.image → reply m c p.0 p.1 ≡ reply m d p.0 p.1) m.booking_reads
 

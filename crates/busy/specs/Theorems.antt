@@ -5,7 +5,7 @@ use Rattle.account.specs.Single.{single}
 use Rattle.busy.specs.Plain.{ImageAlone}
 use Rattle.busy.specs.Worked.{BusyRun, BusyLook}
 
--- both real makes owe no more than they keep, and so does the small one of a single channel
+-- both real makes keep it, and so does the small one of a single channel
 pub record ImagesAlone : Type 0 where
   pub of_193x : ImageAlone pac193x
   pub of_194x : ImageAlone pac194x

@@ -59,6 +59,8 @@ pub record CarriesBusyRuns (m : Datasheet) {W : Type 0} (chip_of : W → State) 
   pub calls : (q : Call) (t : Meter) (u : W) (places : ℕ) (es : List Entry) (s : List ℕ) (t' : Meter) (w : W) (es' : List Entry) (s' : List ℕ)
       (r : Answer) → (made : MadeSteps m goes q t u places es s t' w es' s' r) → BusyCallMade m chip_of made
   pub cycles : (ks : List Codes) (t : Meter) (u w : W) (places number last : ℕ) (es : List Entry) (h : History) → length ks ≡ 4 → passes u ks w
-      → BusyReached m places number last t (chip_of u) es h → BusyReached m places number last t (chip_of w) es (cycle_came ks ∷ h)
-  pub begins : (places number last : ℕ) (u : W) → chip_of u ≡ fresh_chip m
+      → last < 2 ^ 32 → BusyReached m places number last t (chip_of u) es h
+      → BusyReached m places number last t (chip_of w) es (cycle_came ks ∷ h) × Statements m places number last t (chip_of w) es (cycle_came ks ∷ h)
+  pub begins : (places number last : ℕ) (u : W) → last < 2 ^ 32 → chip_of u ≡ fresh_chip m
       → BusyReached m places number last (new_meter number last) (chip_of u) [] []
+      × Statements m places number last (new_meter number last) (chip_of u) [] []
