@@ -9,7 +9,6 @@ mod reply;
 
 use chip::make::Make;
 use crew::kind::{self, Kind};
-use crew::reply::Reply;
 use lines::input::{Input, LIMIT};
 use makes::pac193x::Pac193x;
 use makes::pac194x::Pac194x;
@@ -26,10 +25,12 @@ fn main(rt: HostRuntime) -> anyhow::Result<()> {
 // With no chip on the bench only a good `kind` line can be read.
 fn run(rt: &impl Print, mut input: Input) -> anyhow::Result<()> {
     for line in input.by_ref() {
-        match kind::opening(line) {
-            Ok(Kind::Pac193x) => return serve::<Pac193x>(rt, input),
-            Ok(Kind::Pac194x) => return serve::<Pac194x>(rt, input),
-            Err(reply) => rt.println(reply)?,
+        let (reply, kind) = kind::opening(line);
+        rt.println(reply)?;
+        match kind {
+            Some(Kind::Pac193x) => return serve::<Pac193x>(rt, input),
+            Some(Kind::Pac194x) => return serve::<Pac194x>(rt, input),
+            None => {}
         }
     }
     Ok(())
@@ -37,6 +38,5 @@ fn run(rt: &impl Print, mut input: Input) -> anyhow::Result<()> {
 
 // Every line after the `kind` line, for a fresh chip of that make.
 fn serve<M: Make>(rt: &impl Print, input: Input) -> anyhow::Result<()> {
-    rt.println(Reply::KIND)?;
     raw::serve(rt, Scripted::new(Direct::<M>::new()), input)
 }

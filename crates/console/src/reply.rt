@@ -46,14 +46,6 @@ pub(crate) struct Reply {
 }
 
 impl Reply {
-    // A line that was taken and answers nothing.
-    pub(crate) fn done(word: &'static str) -> Reply {
-        Reply {
-            word,
-            outcome: Ok(Answer::Nothing),
-        }
-    }
-
     pub(crate) fn hands_over(&self) -> bool {
         matches!(self.outcome, Ok(Answer::Handover))
     }

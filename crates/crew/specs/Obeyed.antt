@@ -32,10 +32,10 @@ word_of (Fault k) = word.Fault
 abbrev pub unreadable : Reply
 unreadable = record { word = word.Line; outcome = Err Unreadable }
 
--- before there is a chip, a line that names no kind is unreadable
-abbrev pub or_reply : Option Kind → Result Kind Reply
-or_reply None = Err unreadable
-or_reply (Some k) = Ok k
+-- before there is a post: the line that names a kind is taken and shows nothing, every other is unreadable
+abbrev pub opened : Option Kind → Reply × Option Kind
+opened None = (unreadable, None)
+opened (Some k) = (record { word = word.Kind; outcome = Ok shown.Nothing }, Some k)
 
 -- what the result of a call of the desk tells
 abbrev pub told : {A : Type 0} → (A → Shown) → Result A Refusal → Result Shown Refusal

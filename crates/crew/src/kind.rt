@@ -1,7 +1,7 @@
 //! The line that says which chip there is.
 ghost use Rattle.std.specs.Prelude.{◌≡◌};
 ghost use Rattle.crew.specs.Asks.{kind_asked, kind_of, or_unreadable};
-ghost use Rattle.crew.specs.Obeyed.{or_reply};
+ghost use Rattle.crew.specs.Obeyed.{opened};
 ghost use Rattle.lines.specs.Numbers.{items};
 
 use super::reply::Reply;
@@ -30,11 +30,14 @@ impl TryFrom<&Line<'_>> for Kind {
     }
 }
 
-/// What a line comes to before there is a chip: the kind that it names, or the reply, since nothing else can be read yet.
-pub fn opening(line: &[u8]) -> Result<Kind, Reply>
-    ensures { result ≡ or_reply (kind_asked line.now) }
+/// What a line comes to before there is a post: its reply, and the kind that it names. Nothing else can be read yet.
+pub fn opening(line: &[u8]) -> (Reply, Option<Kind>)
+    ensures { result ≡ opened (kind_asked line.now) }
 {
-    Kind::read(line).map_err(|_| Reply::UNREADABLE)
+    match Kind::read(line) {
+        Ok(kind) => (Reply::KIND, Some(kind)),
+        Err(_) => (Reply::UNREADABLE, None),
+    }
 }
 
 impl Kind {

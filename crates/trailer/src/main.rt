@@ -5,7 +5,6 @@ use chip::entry::Entry;
 use chip::make::Make;
 use crew::kind::{self, Kind};
 use crew::post::{PLACES, Post};
-use crew::reply::Reply;
 use lines::input::{Input, LIMIT};
 use makes::pac193x::Pac193x;
 use makes::pac194x::Pac194x;
@@ -20,10 +19,12 @@ fn main(rt: HostRuntime) -> anyhow::Result<()> {
 // Before a good `kind` line nothing else can be read.
 fn run(rt: &impl Print, mut input: Input) -> anyhow::Result<()> {
     for line in input.by_ref() {
-        match kind::opening(line) {
-            Ok(Kind::Pac193x) => return serve::<Pac193x>(rt, input),
-            Ok(Kind::Pac194x) => return serve::<Pac194x>(rt, input),
-            Err(reply) => rt.println(reply)?,
+        let (reply, kind) = kind::opening(line);
+        rt.println(reply)?;
+        match kind {
+            Some(Kind::Pac193x) => return serve::<Pac193x>(rt, input),
+            Some(Kind::Pac194x) => return serve::<Pac194x>(rt, input),
+            None => {}
         }
     }
     Ok(())
@@ -32,7 +33,6 @@ fn run(rt: &impl Print, mut input: Input) -> anyhow::Result<()> {
 // Every line after the `kind` line. All that can fail stands where the post is lent, so that it always ends, and with it a slip
 // that is still in hand.
 fn serve<M: Make>(rt: &impl Print, input: Input) -> anyhow::Result<()> {
-    rt.println(Reply::KIND)?;
     let mut places = [Entry::EMPTY; PLACES];
     let mut post = Post::<M>::new(&mut places);
     let served = answer_all(rt, &mut post, input);

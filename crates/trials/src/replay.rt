@@ -15,10 +15,12 @@ pub(crate) fn replies(alloc: Global, text: &[u8]) -> Result<String, AllocError> 
     let mut replies = String::new(alloc);
     let mut input = Input::new(text);
     for line in input.by_ref() {
-        match kind::opening(line) {
-            Ok(Kind::Pac193x) => return serve::<Pac193x>(replies, input),
-            Ok(Kind::Pac194x) => return serve::<Pac194x>(replies, input),
-            Err(reply) => add(&mut replies, reply)?,
+        let (reply, kind) = kind::opening(line);
+        add(&mut replies, reply)?;
+        match kind {
+            Some(Kind::Pac193x) => return serve::<Pac193x>(replies, input),
+            Some(Kind::Pac194x) => return serve::<Pac194x>(replies, input),
+            None => {}
         }
     }
     Ok(replies)
@@ -26,7 +28,6 @@ pub(crate) fn replies(alloc: Global, text: &[u8]) -> Result<String, AllocError> 
 
 // Every line after the `kind` line. All that can fail stands where the post is lent, so that it always ends.
 fn serve<M: Make>(mut replies: String, input: Input) -> Result<String, AllocError> {
-    add(&mut replies, Reply::KIND)?;
     let mut places = [Entry::EMPTY; PLACES];
     let mut post = Post::<M>::new(&mut places);
     let served = answer_all(&mut replies, &mut post, input);
