@@ -97,11 +97,12 @@ fn obey<W: Wire>(desk: &mut Desk<W>, command: DeskCommand) -> Result<Answer, Ref
 }
 
 fn state<W>(desk: &Desk<W>) -> State {
+    let meter = desk.meter();
     State {
-        condition: desk.condition(),
+        condition: meter.condition(),
         slip: desk.slip_in_hand(),
-        mark: desk.mark(),
-        last: desk.last(),
-        write_offs: desk.write_offs(),
+        mark: meter.mark(),
+        last: meter.last(),
+        write_offs: meter.write_offs(),
     }
 }

@@ -8,7 +8,6 @@ use book::book::Book;
 use chip::entry::Entry;
 use chip::refusal::Refusal;
 use chip::state::Codes;
-use meter::condition::Condition;
 use meter::meter::Meter;
 use meter::reading::Reading;
 use wire::scripted::Scripted;
@@ -76,29 +75,11 @@ impl<'a, W: Wire> Desk<'a, W> {
 }
 
 impl<W> Desk<'_, W> {
-    pub fn condition(&self) -> Condition
-        ensures { result ≡ self.now.meter.condition }
+    /// How its meter stands.
+    pub fn meter(&self) -> &Meter<Scripted<W>>
+        ensures { result.now ≡ self.now.meter }
     {
-        self.meter.condition()
-    }
-
-    pub fn mark(&self) -> bool
-        ensures { result ≡ self.now.meter.mark }
-    {
-        self.meter.mark()
-    }
-
-    /// The last draw number used.
-    pub fn last(&self) -> u32
-        ensures { result ≡ self.now.meter.last }
-    {
-        self.meter.last()
-    }
-
-    pub fn write_offs(&self) -> u32
-        ensures { result ≡ self.now.meter.write_offs }
-    {
-        self.meter.write_offs()
+        &self.meter
     }
 
     /// The replies to the last booking's reads lie at its start.
