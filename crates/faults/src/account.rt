@@ -1,0 +1,136 @@
+//! The account that follows from the cycles that came, and whether a book has it.
+
+use super::cycle::Cycle;
+use super::log::Log;
+use super::settings::Settings;
+use anyhow::{Context, ensure};
+use book::bill::Bill;
+use chip::entry::Entry;
+
+// Cycles from one number on and below another.
+#[derive(Clone, Copy)]
+struct Stretch {
+    from: u8,
+    to: u8,
+}
+
+impl Stretch {
+    // Those whose products are in a sum of channel 1: each of its bits is a cycle. Where a cycle between them is missing, their sum is another one.
+    fn in_sum(sum: i64) -> Stretch {
+        let bits = sum.cast_unsigned();
+        let above = bits.leading_zeros().min(64);
+        Stretch {
+            from: bits.trailing_zeros().min(64) as u8,
+            to: (64 - above) as u8,
+        }
+    }
+
+    // What it added to a channel's sum.
+    fn sum(self, log: &Log, settings: Settings, channel: usize) -> i64 {
+        (self.from..self.to).fold(0, |sum: i64, number| {
+            sum.saturating_add(Cycle(number).product(log.kind(), settings, channel))
+        })
+    }
+
+    fn entry(self, log: &Log, draw: u32, settings: Settings) -> Entry {
+        Entry {
+            draw,
+            spoilt: 0,
+            count: u32::from(self.to.saturating_sub(self.from)),
+            rate: settings.rate,
+            off: settings.off,
+            two_way: settings.two_way,
+            sums: [0, 1, 2, 3].map(|channel| self.sum(log, settings, channel)),
+        }
+    }
+}
+
+// How a run ended.
+#[derive(Clone, Copy, Debug, PartialEq, Eq)]
+pub(crate) struct Closing {
+    pub(crate) last: u32,
+    pub(crate) write_offs: u32,
+    // of each channel, over a tenth of a milliohm
+    pub(crate) bills: [Bill; 4],
+}
+
+// The account up to an entry.
+#[derive(Clone, Copy, Default)]
+pub(crate) struct Account {
+    // its draw number
+    draw: u32,
+    // cycles below it are accounted for
+    end: u8,
+    entries: usize,
+    // all sums, each by its weight
+    weighed: [i64; 4],
+}
+
+impl Account {
+    // Of the entries of a book, if they are the ones that follow from what came.
+    pub(crate) fn of(log: &Log, entries: &[Entry]) -> anyhow::Result<Account> {
+        let mut account = Account::default();
+        for entry in entries {
+            account.take(log, entry)?;
+        }
+        Ok(account)
+    }
+
+    // Takes the next entry in.
+    fn take(&mut self, log: &Log, entry: &Entry) -> anyhow::Result<()> {
+        let stretch = Stretch::in_sum(entry.sums[0]);
+        let draw = log.next_kept(self.draw).context("an entry of no slip")?;
+        let settings = log
+            .in_force(stretch.from)
+            .context("no draw was asked for where a stretch begins")?;
+        let expected = stretch.entry(log, draw, settings);
+        ensure!(*entry == expected, "{entry:?} is to be {expected:?}");
+        ensure!(self.leads_to(draw, stretch), "{entry:?} begins wrongly");
+        self.add(&expected, stretch, settings);
+        Ok(())
+    }
+
+    // A stretch begins where the last one ended. Only what was written off may lie between them, a cycle at least for each slip.
+    fn leads_to(&self, draw: u32, stretch: Stretch) -> bool {
+        let written_off = draw.saturating_sub(self.draw).saturating_sub(1);
+        let between = u32::from(stretch.from.saturating_sub(self.end));
+        stretch.from >= self.end && between >= written_off && (written_off > 0 || between == 0)
+    }
+
+    fn add(&mut self, entry: &Entry, stretch: Stretch, settings: Settings) {
+        self.draw = entry.draw;
+        self.end = stretch.to;
+        self.entries = self.entries.saturating_add(1);
+        let sums = entry.sums.iter().enumerate();
+        for (weighed, (channel, sum)) in self.weighed.iter_mut().zip(sums) {
+            let worth = sum.saturating_mul(settings.weight(channel));
+            *weighed = weighed.saturating_add(worth);
+        }
+    }
+
+    pub(crate) fn end(&self) -> u8 {
+        self.end
+    }
+
+    // What the cycles that have no entry add up to on channel 1: they are to be running still.
+    pub(crate) fn running(&self, log: &Log) -> u64 {
+        let running = Stretch {
+            from: self.end,
+            to: log.cycles(),
+        };
+        running.sum(log, Settings::FRESH, 0).cast_unsigned()
+    }
+
+    // How the run is to end then.
+    pub(crate) fn closing(&self, log: &Log) -> Closing {
+        Closing {
+            last: log.slips(),
+            write_offs: log.write_offs(),
+            bills: self.weighed.map(|weighed| Bill {
+                energy: log.kind().energy(weighed),
+                billed: self.entries,
+                spoilt: 0,
+            }),
+        }
+    }
+}
