@@ -40,7 +40,15 @@ const NO_BILL: Bill = Bill {
 // Each outcome of a script and of a doubt before it can refuse a call once.
 const TRIES: usize = LENGTH + 2;
 
+// Outcomes: a transaction passes, breaks before the chip, or is carried out and its reply is lost.
 const PASS: u8 = 0;
+
+const BREAKS: u8 = 2;
+
+const LOST: u8 = 3;
+
+// The quantity of a look.
+const SENSE: u8 = 1;
 
 const REFRESH_V: u8 = 0x1f;
 
@@ -148,14 +156,15 @@ impl<W: Wire> Bench<'_, W> {
         Ok(())
     }
 
-    // A draw whose REFRESH has an outcome that leaves the meter in doubt.
-    pub(crate) fn doubt(&mut self, outcome: u8) -> anyhow::Result<()> {
+    // A draw whose REFRESH breaks, and what only the wire knows: whether it was carried out.
+    pub(crate) fn doubt(&mut self, carried_out: bool) -> anyhow::Result<()> {
         for _ in 0..self.log.kind().writes() {
             self.place(PASS)?;
         }
-        self.place(outcome)?;
+        self.place(if carried_out { LOST } else { BREAKS })?;
         let drawn = self.try_draw()?;
         ensure!(!drawn, "a draw was done whose REFRESH broke");
+        self.log.learn(carried_out);
         Ok(())
     }
 
@@ -220,21 +229,21 @@ impl<W: Wire> Bench<'_, W> {
         self.desk.write_off().map_err(refused)
     }
 
-    // One try of a look at the bus of channel 1; whether it was done.
-    fn try_look(&mut self) -> anyhow::Result<bool> {
+    // One try of a look at the sense of channel 3; whether it was done.
+    fn try_look(&mut self, in_force: Settings) -> anyhow::Result<bool> {
         self.cycle()?;
-        let Some(reading) = heard(self.desk.look(1, 0), &mut self.counts.looks)? else {
+        let Some(reading) = heard(self.desk.look(3, SENSE), &mut self.counts.looks)? else {
             return Ok(false);
         };
-        let expected = self.log.latest().volts(self.log.kind());
-        let agrees = matches!(reading, Reading::Volts(volts) if volts == expected);
-        ensure!(agrees, "a look at {expected} volts answers another reading");
+        let expected = self.log.latest().millivolts(self.log.kind(), in_force);
+        let agrees = matches!(reading, Reading::Millivolts(shown) if shown == expected);
+        ensure!(agrees, "a look does not answer {expected} mV");
         Ok(true)
     }
 
-    pub(crate) fn look(&mut self) -> anyhow::Result<()> {
+    pub(crate) fn look(&mut self, in_force: Settings) -> anyhow::Result<()> {
         for _ in 0..TRIES {
-            if self.try_look()? {
+            if self.try_look(in_force)? {
                 return Ok(());
             }
         }
@@ -244,7 +253,7 @@ impl<W: Wire> Bench<'_, W> {
     // A look that the meter itself refuses.
     pub(crate) fn no_look(&mut self, expected: Refusal) -> anyhow::Result<()> {
         self.cycle()?;
-        let refusal = self.desk.look(1, 0).err();
+        let refusal = self.desk.look(3, SENSE).err();
         ensure!(
             refusal == Some(expected),
             "a look is to be refused by {expected:?}"

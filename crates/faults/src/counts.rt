@@ -2,9 +2,12 @@
 
 use std::fmt;
 
-// Over the columns of the table.
-pub(crate) const HEAD: &str =
-    "kind     scenario                     runs   passes  not ack.    breaks      lost   draws 2 / 3        bookings 2 / 3     looks 2 / 3";
+// Over the columns of the table, in two lines.
+pub(crate) const GROUPS: &str =
+    "                                                              outcomes placed     draws refused  bookings refused     looks refused";
+
+pub(crate) const COLUMNS: &str =
+    "kind     scenario                    runs        0        1        2        3     by 2     by 3     by 2     by 3     by 2     by 3";
 
 // Outcomes that were placed, by their kind.
 #[derive(Clone, Copy, Default)]
@@ -68,7 +71,7 @@ impl Refused {
 
 impl fmt::Display for Refused {
     fn fmt<W: fmt::Write>(&self, f: &mut fmt::Formatter<W>) -> fmt::Result {
-        write!(f, "{:>7} / {:<7}", self.not_acknowledged, self.broken)
+        write!(f, "{:>9}{:>9}", self.not_acknowledged, self.broken)
     }
 }
 
@@ -111,9 +114,9 @@ impl Counts {
 impl fmt::Display for Counts {
     fn fmt<W: fmt::Write>(&self, f: &mut fmt::Formatter<W>) -> fmt::Result {
         let placed = &self.placed;
-        write!(f, "{:>8} {:>8}  ", self.runs, placed.passes)?;
-        write!(f, "{:>8}  {:>8}", placed.not_acknowledged, placed.breaks)?;
-        write!(f, "  {:>8}  ", placed.lost)?;
-        write!(f, "{}  {}  {}", self.draws, self.bookings, self.looks)
+        write!(f, "{:>8}{:>9}", self.runs, placed.passes)?;
+        write!(f, "{:>9}{:>9}", placed.not_acknowledged, placed.breaks)?;
+        write!(f, "{:>9}", placed.lost)?;
+        write!(f, "{}{}{}", self.draws, self.bookings, self.looks)
     }
 }

@@ -79,9 +79,13 @@ impl Cycle {
         self.factors(channel).product(kind, two_way)
     }
 
-    // The bus voltage of channel 1 in it, by the data sheet.
-    pub(crate) fn volts(self, kind: Kind) -> f64 {
-        let code = self.factors(0).codes(kind).bus;
-        kind.volts() * (f64::from(code) / 65536.0)
+    // What a look at the sense of channel 3 is to answer, by the data sheet.
+    pub(crate) fn millivolts(self, kind: Kind, settings: Settings) -> f64 {
+        let code = self.factors(2).codes(kind).sense;
+        if settings.is_two_way(2) {
+            100.0 * (f64::from(code.cast_signed()) / 32768.0)
+        } else {
+            100.0 * (f64::from(code) / 65536.0)
+        }
     }
 }

@@ -67,14 +67,6 @@ impl Kind {
         }
     }
 
-    // The full scale of a bus code, in volts.
-    pub(crate) fn volts(self) -> f64 {
-        match self {
-            Kind::Pac193x => 32.0,
-            Kind::Pac194x => 9.0,
-        }
-    }
-
     // What weighed sums are worth over a tenth of a milliohm, in millijoules rounded down.
     pub(crate) fn energy(self, weighed: i64) -> i128 {
         let weighed = i128::from(weighed);

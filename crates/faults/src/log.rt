@@ -16,6 +16,8 @@ pub(crate) struct Log {
     kind: Kind,
     cycles: u8,
     wanted: Settings,
+    // whether it is known that a stretch is closed whose slip is not handed out yet
+    closed: bool,
     // how many slips were handed out
     slips: u32,
     write_offs: u32,
@@ -33,6 +35,7 @@ impl Log {
             kind,
             cycles: 0,
             wanted: Settings::FRESH,
+            closed: false,
             slips: 0,
             write_offs: 0,
             written_off: [false; DRAWS],
@@ -73,15 +76,30 @@ impl Log {
         self.wanted = settings;
     }
 
-    // A draw is asked for.
+    // A draw is asked for. It closes no stretch if one is closed already.
     pub(crate) fn ask(&mut self) {
+        if !self.closed {
+            self.set_asked(Some(self.wanted));
+        }
+    }
+
+    // It becomes known of the last draw that was asked for whether its REFRESH was carried out.
+    pub(crate) fn learn(&mut self, carried_out: bool) {
+        self.closed = carried_out;
+        if !carried_out {
+            self.set_asked(None);
+        }
+    }
+
+    fn set_asked(&mut self, settings: Option<Settings>) {
         if let Some(asked) = self.asked.get_mut(usize::from(self.cycles)) {
-            *asked = Some(self.wanted);
+            *asked = settings;
         }
     }
 
     // A slip is handed out, under the draw number that is answered.
     pub(crate) fn hand_out(&mut self) -> u32 {
+        self.closed = false;
         self.slips = self.slips.saturating_add(1);
         self.slips
     }

@@ -22,11 +22,12 @@ use script::Script;
 
 fn main(rt: HostRuntime) -> anyhow::Result<()> {
     println!(rt; "every script of {} outcomes, then passes", script::LENGTH)?;
-    rt.println(counts::HEAD)?;
+    rt.println(counts::GROUPS)?;
+    rt.println(counts::COLUMNS)?;
     let mut total = Counts::default();
     check_kind::<Pac193x>(&rt, &mut total)?;
     check_kind::<Pac194x>(&rt, &mut total)?;
-    println!(rt; "{:<35}{total}", "in all")?;
+    println!(rt; "{:<33}{total}", "in all")?;
     rt.println("every account agrees with its cycles")?;
     Ok(())
 }
@@ -34,7 +35,7 @@ fn main(rt: HostRuntime) -> anyhow::Result<()> {
 fn check_kind<C: Chip>(rt: &impl Print, total: &mut Counts) -> anyhow::Result<()> {
     for scenario in Scenario::ALL {
         let counts = check_scenario::<C>(scenario)?;
-        println!(rt; "{}  {:<26}{counts}", C::KIND.name(), scenario.name())?;
+        println!(rt; "{}  {:<24}{counts}", C::KIND.name(), scenario.name())?;
         total.add(counts);
     }
     Ok(())

@@ -5,11 +5,6 @@ use super::settings::Settings;
 use chip::refusal::Refusal;
 use wire::wire::Wire;
 
-// A REFRESH that breaks before the chip, and one whose acknowledgement is lost.
-const BREAKS: u8 = 2;
-
-const LOST: u8 = 3;
-
 #[derive(Clone, Copy)]
 pub(crate) enum Scenario {
     TwoDraws,
@@ -53,8 +48,8 @@ impl Scenario {
             Scenario::SecondDraw => second_draw(bench),
             Scenario::Booking => booking(bench),
             Scenario::ChangedSetUp => changed_set_up(bench),
-            Scenario::BrokenRefresh => recovery(bench, BREAKS),
-            Scenario::LostReply => recovery(bench, LOST),
+            Scenario::BrokenRefresh => recovery(bench, false),
+            Scenario::LostReply => recovery(bench, true),
             Scenario::Looks => looks(bench),
             Scenario::WriteOff => write_off(bench),
         }
@@ -103,10 +98,10 @@ fn changed_set_up<W: Wire>(bench: &mut Bench<W>) -> anyhow::Result<()> {
     bench.book()
 }
 
-// A draw that is tried again in doubt, with another set-up wanted by then.
-fn recovery<W: Wire>(bench: &mut Bench<W>, outcome: u8) -> anyhow::Result<()> {
+// A draw that is tried again in doubt of its REFRESH, with another set-up wanted by then.
+fn recovery<W: Wire>(bench: &mut Bench<W>, carried_out: bool) -> anyhow::Result<()> {
     bench.set_up(Settings::QUIET)?;
-    bench.doubt(outcome)?;
+    bench.doubt(carried_out)?;
     bench.set_up(Settings::SLOW)?;
     bench.fail()?;
     bench.draw()?;
@@ -118,15 +113,15 @@ fn recovery<W: Wire>(bench: &mut Bench<W>, outcome: u8) -> anyhow::Result<()> {
 // A look before a draw, and looks that are refused after its first try: by 4 if its slip is out, else by 5.
 fn looks<W: Wire>(bench: &mut Bench<W>) -> anyhow::Result<()> {
     bench.fail()?;
-    bench.set_up(Settings::SLOW)?;
-    bench.look()?;
+    bench.set_up(Settings::QUIET)?;
+    bench.look(Settings::FRESH)?;
     if !bench.try_draw()? {
         bench.no_look(Refusal::NotReady)?;
         bench.draw()?;
     }
     bench.no_look(Refusal::SlipOut)?;
     bench.book()?;
-    bench.look()
+    bench.look(Settings::QUIET)
 }
 
 // The stretch of the first draw is given up, however its slip came.

@@ -3,7 +3,7 @@
 use std::fmt;
 
 // How many outcomes a script has.
-pub(crate) const LENGTH: usize = 7;
+pub(crate) const LENGTH: usize = 8;
 
 // One of all scripts of that length: its number in base 4, the first outcome in the lowest digit.
 #[derive(Clone, Copy)]
@@ -12,8 +12,8 @@ pub(crate) struct Script {
 }
 
 impl Script {
-    // 4^LENGTH.
-    pub(crate) const COUNT: u32 = 1 << 14;
+    // How many there are: 4 for each outcome.
+    pub(crate) const COUNT: u32 = 1 << (2 * LENGTH);
 
     pub(crate) fn outcomes(self) -> [u8; LENGTH] {
         let mut rest = self.number;
