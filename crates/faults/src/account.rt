@@ -50,13 +50,26 @@ impl Stretch {
 pub(crate) struct Closing {
     pub(crate) last: u32,
     pub(crate) write_offs: u32,
+    // channel 1's running sum
+    pub(crate) running: u64,
     // of each channel, over a tenth of a milliohm
     pub(crate) bills: [Bill; 4],
 }
 
+// Compares a book's entries and how its run ended with what follows from the log.
+pub(crate) fn check(log: &Log, entries: &[Entry], closing: Closing) -> anyhow::Result<()> {
+    let mut account = Account::default();
+    for entry in entries {
+        account.take(log, entry)?;
+    }
+    let expected = account.closing(log);
+    ensure!(closing == expected, "{closing:?} is to be {expected:?}");
+    Ok(())
+}
+
 // The account up to an entry.
 #[derive(Clone, Copy, Default)]
-pub(crate) struct Account {
+struct Account {
     // its draw number
     draw: u32,
     // cycles below it are accounted for
@@ -67,15 +80,6 @@ pub(crate) struct Account {
 }
 
 impl Account {
-    // Of the entries of a book, if they are the ones that follow from what came.
-    pub(crate) fn of(log: &Log, entries: &[Entry]) -> anyhow::Result<Account> {
-        let mut account = Account::default();
-        for entry in entries {
-            account.take(log, entry)?;
-        }
-        Ok(account)
-    }
-
     // Takes the next entry in.
     fn take(&mut self, log: &Log, entry: &Entry) -> anyhow::Result<()> {
         let stretch = Stretch::in_sum(entry.sums[0]);
@@ -108,24 +112,16 @@ impl Account {
         }
     }
 
-    pub(crate) fn end(&self) -> u8 {
-        self.end
-    }
-
-    // What the cycles that have no entry add up to on channel 1: they are to be running still.
-    pub(crate) fn running(&self, log: &Log) -> u64 {
+    // How the run is to end then. Cycles that have no entry are running.
+    fn closing(&self, log: &Log) -> Closing {
         let running = Stretch {
             from: self.end,
             to: log.cycles(),
         };
-        running.sum(log, Settings::FRESH, 0).cast_unsigned()
-    }
-
-    // How the run is to end then.
-    pub(crate) fn closing(&self, log: &Log) -> Closing {
         Closing {
             last: log.slips(),
             write_offs: log.write_offs(),
+            running: running.sum(log, Settings::FRESH, 0).cast_unsigned(),
             bills: self.weighed.map(|weighed| Bill {
                 energy: log.kind().energy(weighed),
                 billed: self.entries,

@@ -1,6 +1,6 @@
 //! A meter whose wire fails as a script says, with the log of its run. Each call comes after a cycle, when it is tried again too.
 
-use super::account::{Account, Closing};
+use super::account::{self, Closing};
 use super::counts::{Counts, Refused};
 use super::kind::{Chip, Kind};
 use super::log::Log;
@@ -86,29 +86,20 @@ pub(crate) fn run<C: Chip>(scenario: Scenario, script: Script) -> anyhow::Result
         entries,
     } = bench;
     let (mut wire, _book) = desk.end();
-    let closing = played?;
-    let running = running(&mut wire, C::KIND).map_err(refused)?;
+    let closing = Closing {
+        running: running(&mut wire, C::KIND).map_err(refused)?,
+        ..played?
+    };
     ensure!(
         places == answered,
         "the book has {places:?}, and {answered:?} were answered"
     );
-    let account = Account::of(&log, entries_of(&places, entries))?;
-    ensure!(
-        running == account.running(&log),
-        "the chip has {running}, and cycles from {} on have no entry",
-        account.end()
-    );
-    let expected = account.closing(&log);
-    ensure!(closing == expected, "{closing:?} is to be {expected:?}");
+    account::check(&log, places.get(..entries).unwrap_or(&places), closing)?;
     ensure!(
         counts.all_struck(),
         "a failure refused no call, or more than one"
     );
     Ok(counts)
-}
-
-fn entries_of(places: &[Entry], entries: usize) -> &[Entry] {
-    places.get(..entries).unwrap_or(places)
 }
 
 // What channel 1's sum register has, by the chip itself.
@@ -261,6 +252,7 @@ impl<W: Wire> Bench<'_, W> {
         Ok(())
     }
 
+    // What is running, the chip tells later.
     fn closing(&self) -> anyhow::Result<Closing> {
         let mut bills = [NO_BILL; 4];
         for (channel, bill) in (1..=4).zip(&mut bills) {
@@ -269,6 +261,7 @@ impl<W: Wire> Bench<'_, W> {
         Ok(Closing {
             last: self.desk.last(),
             write_offs: self.desk.write_offs(),
+            running: 0,
             bills,
         })
     }
