@@ -6,6 +6,7 @@ use super::settings::Settings;
 use anyhow::{Context, ensure};
 use book::bill::Bill;
 use chip::entry::Entry;
+use std::fmt;
 
 // Cycles from one number on and below another.
 #[derive(Clone, Copy)]
@@ -45,8 +46,24 @@ impl Stretch {
     }
 }
 
+// An entry as a line of its fields.
+#[derive(Clone, Copy)]
+struct Fields<'a>(&'a Entry);
+
+impl fmt::Display for Fields<'_> {
+    fn fmt<W: fmt::Write>(&self, f: &mut fmt::Formatter<W>) -> fmt::Result {
+        let entry = self.0;
+        write!(f, "{},{},{}", entry.draw, entry.spoilt, entry.count)?;
+        write!(f, ",{},{},{}", entry.rate, entry.off, entry.two_way)?;
+        for sum in &entry.sums {
+            write!(f, ",{sum}")?;
+        }
+        Ok(())
+    }
+}
+
 // How a run ended.
-#[derive(Clone, Copy, Debug, PartialEq, Eq)]
+#[derive(Clone, Copy, PartialEq, Eq)]
 pub(crate) struct Closing {
     pub(crate) last: u32,
     pub(crate) write_offs: u32,
@@ -56,6 +73,16 @@ pub(crate) struct Closing {
     pub(crate) bills: [Bill; 4],
 }
 
+impl fmt::Display for Closing {
+    fn fmt<W: fmt::Write>(&self, f: &mut fmt::Formatter<W>) -> fmt::Result {
+        write!(f, "{},{},{}", self.last, self.write_offs, self.running)?;
+        for bill in &self.bills {
+            write!(f, ",{},{},{}", bill.energy, bill.billed, bill.spoilt)?;
+        }
+        Ok(())
+    }
+}
+
 // Compares a book's entries and how its run ended with what follows from the log.
 pub(crate) fn check(log: &Log, entries: &[Entry], closing: Closing) -> anyhow::Result<()> {
     let mut account = Account::default();
@@ -63,7 +90,7 @@ pub(crate) fn check(log: &Log, entries: &[Entry], closing: Closing) -> anyhow::R
         account.take(log, entry)?;
     }
     let expected = account.closing(log);
-    ensure!(closing == expected, "{closing:?} is to be {expected:?}");
+    ensure!(closing == expected, "end {closing} is to be {expected}");
     Ok(())
 }
 
@@ -88,8 +115,17 @@ impl Account {
             .in_force(stretch.from)
             .context("no draw was asked for where a stretch begins")?;
         let expected = stretch.entry(log, draw, settings);
-        ensure!(*entry == expected, "{entry:?} is to be {expected:?}");
-        ensure!(self.leads_to(draw, stretch), "{entry:?} begins wrongly");
+        ensure!(
+            *entry == expected,
+            "entry {} is to be {}",
+            Fields(entry),
+            Fields(&expected)
+        );
+        ensure!(
+            self.leads_to(draw, stretch),
+            "entry {} does not begin where the last one ends",
+            Fields(entry)
+        );
         self.add(&expected, stretch, settings);
         Ok(())
     }

@@ -1,5 +1,4 @@
 //! What is known of each kind of chip, from its data sheet alone.
-
 ghost use Rattle.std.specs.Prelude.{◌≤◌};
 
 use chip::make::Make;

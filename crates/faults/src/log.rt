@@ -9,7 +9,7 @@ use anyhow::ensure;
 const DRAWS: usize = 16;
 
 // As many numbers of cycles as there can be, none among them.
-const COUNTS: usize = 27;
+const COUNTS: usize = MOST_CYCLES as usize + 1;
 
 #[derive(Clone, Copy)]
 pub(crate) struct Log {
