@@ -1,12 +1,12 @@
 //! A meter whose wire fails as a script says, with the log of its run. Each call comes after a cycle, when it is tried again too.
 
-use super::account::{self, Closing};
 use super::counts::{Counts, Refused};
-use super::kind::{Chip, Kind};
+use super::kind::{Kind, Known};
 use super::log::Log;
 use super::scenario::Scenario;
 use super::script::{LENGTH, Script};
 use super::settings::Settings;
+use super::tally::{self, Closing};
 use anyhow::{anyhow, bail, ensure};
 use book::bill::Bill;
 use chip::entry::Entry;
@@ -66,7 +66,7 @@ pub(crate) struct Bench<'a, W> {
 }
 
 // A run of a scenario on a fresh chip.
-pub(crate) fn run<C: Chip>(scenario: Scenario, script: Script) -> anyhow::Result<Counts> {
+pub(crate) fn run<C: Known>(scenario: Scenario, script: Script) -> anyhow::Result<Counts> {
     let mut places = [BLANK; PLACES];
     let mut bench = Bench {
         desk: Desk::new(Scripted::new(Direct::<C>::new()), &mut places),
@@ -94,7 +94,7 @@ pub(crate) fn run<C: Chip>(scenario: Scenario, script: Script) -> anyhow::Result
         places == answered,
         "the book has other entries than were answered"
     );
-    account::check(&log, places.get(..entries).unwrap_or(&places), closing)?;
+    tally::check(&log, places.get(..entries).unwrap_or(&places), closing)?;
     ensure!(
         counts.all_struck(),
         "a failure refused no call, or more than one"
@@ -140,7 +140,7 @@ impl<W: Wire> Bench<'_, W> {
     }
 
     // From here on the script's outcomes are placed.
-    pub(crate) fn fail(&mut self) -> anyhow::Result<()> {
+    pub(crate) fn place_script(&mut self) -> anyhow::Result<()> {
         for outcome in self.script.outcomes() {
             self.place(outcome)?;
         }

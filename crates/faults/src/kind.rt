@@ -12,15 +12,15 @@ pub(crate) enum Kind {
 }
 
 // A make of a kind that is known here.
-pub(crate) trait Chip: Make + Drop {
+pub(crate) trait Known: Make + Drop {
     const KIND: Kind;
 }
 
-impl Chip for Pac193x {
+impl Known for Pac193x {
     const KIND: Kind = Kind::Pac193x;
 }
 
-impl Chip for Pac194x {
+impl Known for Pac194x {
     const KIND: Kind = Kind::Pac194x;
 }
 

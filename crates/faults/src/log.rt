@@ -1,4 +1,4 @@
-//! What came and what was asked for, whatever the meter answered; and the account that follows from it. It knows nothing of a call's transactions.
+//! What came and what was asked for. It knows nothing of the transactions of a call.
 
 use super::cycle::{Cycle, MOST_CYCLES};
 use super::kind::Kind;

@@ -2,7 +2,6 @@
 //! a line for each kind of chip and scenario, and ends with an error at the first run whose account differs.
 #![tactic(auto)]
 
-mod account;
 mod bench;
 mod counts;
 mod cycle;
@@ -11,10 +10,11 @@ mod log;
 mod scenario;
 mod script;
 mod settings;
+mod tally;
 
 use anyhow::Context;
 use counts::Counts;
-use kind::Chip;
+use kind::Known;
 use makes::pac193x::Pac193x;
 use makes::pac194x::Pac194x;
 use scenario::Scenario;
@@ -32,7 +32,7 @@ fn main(rt: HostRuntime) -> anyhow::Result<()> {
     Ok(())
 }
 
-fn check_kind<C: Chip>(rt: &impl Print, total: &mut Counts) -> anyhow::Result<()> {
+fn check_kind<C: Known>(rt: &impl Print, total: &mut Counts) -> anyhow::Result<()> {
     for scenario in Scenario::ALL {
         let counts = check_scenario::<C>(scenario)?;
         println!(rt; "{}  {:<24}{counts}", C::KIND.name(), scenario.name())?;
@@ -42,7 +42,7 @@ fn check_kind<C: Chip>(rt: &impl Print, total: &mut Counts) -> anyhow::Result<()
 }
 
 // Every script.
-fn check_scenario<C: Chip>(scenario: Scenario) -> anyhow::Result<Counts> {
+fn check_scenario<C: Known>(scenario: Scenario) -> anyhow::Result<Counts> {
     let mut counts = Counts::default();
     for number in 0..Script::COUNT {
         let script = Script { number };

@@ -57,7 +57,7 @@ impl Scenario {
 }
 
 fn two_draws<W: Wire>(bench: &mut Bench<W>) -> anyhow::Result<()> {
-    bench.fail()?;
+    bench.place_script()?;
     bench.set_up(Settings::QUIET)?;
     bench.draw()?;
     bench.book()?;
@@ -70,7 +70,7 @@ fn second_draw<W: Wire>(bench: &mut Bench<W>) -> anyhow::Result<()> {
     bench.draw()?;
     bench.book()?;
     bench.set_up(Settings::SLOW)?;
-    bench.fail()?;
+    bench.place_script()?;
     bench.draw()?;
     bench.book()
 }
@@ -78,7 +78,7 @@ fn second_draw<W: Wire>(bench: &mut Bench<W>) -> anyhow::Result<()> {
 fn booking<W: Wire>(bench: &mut Bench<W>) -> anyhow::Result<()> {
     bench.set_up(Settings::QUIET)?;
     bench.draw()?;
-    bench.fail()?;
+    bench.place_script()?;
     bench.book()?;
     bench.draw()?;
     bench.book()
@@ -86,7 +86,7 @@ fn booking<W: Wire>(bench: &mut Bench<W>) -> anyhow::Result<()> {
 
 // The second set-up is stored while the draw is unfinished or in doubt, or while its slip is out.
 fn changed_set_up<W: Wire>(bench: &mut Bench<W>) -> anyhow::Result<()> {
-    bench.fail()?;
+    bench.place_script()?;
     bench.set_up(Settings::QUIET)?;
     let drawn = bench.try_draw()?;
     bench.set_up(Settings::SLOW)?;
@@ -103,7 +103,7 @@ fn recovery<W: Wire>(bench: &mut Bench<W>, carried_out: bool) -> anyhow::Result<
     bench.set_up(Settings::QUIET)?;
     bench.doubt(carried_out)?;
     bench.set_up(Settings::SLOW)?;
-    bench.fail()?;
+    bench.place_script()?;
     bench.draw()?;
     bench.book()?;
     bench.draw()?;
@@ -112,7 +112,7 @@ fn recovery<W: Wire>(bench: &mut Bench<W>, carried_out: bool) -> anyhow::Result<
 
 // A look before a draw, and looks that are refused after its first try: by 4 if its slip is out, else by 5.
 fn looks<W: Wire>(bench: &mut Bench<W>) -> anyhow::Result<()> {
-    bench.fail()?;
+    bench.place_script()?;
     bench.set_up(Settings::QUIET)?;
     bench.look(Settings::FRESH)?;
     if !bench.try_draw()? {
@@ -126,7 +126,7 @@ fn looks<W: Wire>(bench: &mut Bench<W>) -> anyhow::Result<()> {
 
 // The stretch of the first draw is given up, however its slip came.
 fn write_off<W: Wire>(bench: &mut Bench<W>) -> anyhow::Result<()> {
-    bench.fail()?;
+    bench.place_script()?;
     bench.set_up(Settings::QUIET)?;
     bench.draw()?;
     bench.write_off()?;

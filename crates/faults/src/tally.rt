@@ -85,18 +85,18 @@ impl fmt::Display for Closing {
 
 // Compares a book's entries and how its run ended with what follows from the log.
 pub(crate) fn check(log: &Log, entries: &[Entry], closing: Closing) -> anyhow::Result<()> {
-    let mut account = Account::default();
+    let mut tally = Tally::default();
     for entry in entries {
-        account.take(log, entry)?;
+        tally.take(log, entry)?;
     }
-    let expected = account.closing(log);
+    let expected = tally.closing(log);
     ensure!(closing == expected, "end {closing} is to be {expected}");
     Ok(())
 }
 
 // The account up to an entry.
 #[derive(Clone, Copy, Default)]
-struct Account {
+struct Tally {
     // its draw number
     draw: u32,
     // cycles below it are accounted for
@@ -106,7 +106,7 @@ struct Account {
     weighed: [i64; 4],
 }
 
-impl Account {
+impl Tally {
     // Takes the next entry in.
     fn take(&mut self, log: &Log, entry: &Entry) -> anyhow::Result<()> {
         let stretch = Stretch::in_sum(entry.sums[0]);
