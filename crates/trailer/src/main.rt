@@ -9,7 +9,8 @@ use crew::reply::Reply;
 use lines::input::Input;
 use makes::pac193x::Pac193x;
 use makes::pac194x::Pac194x;
-use std::io::Read;
+use std::io;
+use std::io::{BufWriter, Read, Write};
 
 // The first 64 KiB of standard input are read.
 const LIMIT: u64 = 65536;
@@ -27,16 +28,19 @@ const EMPTY: Entry = Entry {
 fn main(rt: HostRuntime) -> anyhow::Result<()> {
     let mut text = Vec::new(rt.alloc());
     rt.stdin().take(LIMIT).read_to_end(&mut text)?;
-    run(&rt, Input::new(text.as_slice()))
+    let mut out = BufWriter::new(rt.alloc(), io::writer(&rt))?;
+    run(&mut out, Input::new(text.as_slice()))?;
+    out.flush()?;
+    Ok(())
 }
 
 // Before a good `kind` line nothing else can be read.
-fn run(rt: &impl Print, mut input: Input) -> anyhow::Result<()> {
+fn run(out: &mut impl Write, mut input: Input) -> anyhow::Result<()> {
     for line in input.by_ref() {
         match Kind::read(line) {
-            Ok(Kind::Pac193x) => return serve::<Pac193x>(rt, input),
-            Ok(Kind::Pac194x) => return serve::<Pac194x>(rt, input),
-            Err(_) => rt.println(Reply::UNREADABLE)?,
+            Ok(Kind::Pac193x) => return serve::<Pac193x>(out, input),
+            Ok(Kind::Pac194x) => return serve::<Pac194x>(out, input),
+            Err(_) => writeln!(out, "{}", Reply::UNREADABLE)?,
         }
     }
     Ok(())
@@ -44,18 +48,22 @@ fn run(rt: &impl Print, mut input: Input) -> anyhow::Result<()> {
 
 // Every line after the `kind` line. All that can fail stands where the post is lent, so that it always ends, and with it a slip
 // that is still in hand.
-fn serve<M: Make>(rt: &impl Print, input: Input) -> anyhow::Result<()> {
-    rt.println(Reply::KIND)?;
+fn serve<M: Make>(out: &mut impl Write, input: Input) -> anyhow::Result<()> {
+    writeln!(out, "{}", Reply::KIND)?;
     let mut places = [EMPTY; PLACES];
     let mut post = Post::<M>::new(&mut places);
-    let served = answer_all(rt, &mut post, input);
+    let served = answer_all(out, &mut post, input);
     let (_wire, _book) = post.end();
     served
 }
 
-fn answer_all<M: Make>(rt: &impl Print, post: &mut Post<M>, input: Input) -> anyhow::Result<()> {
+fn answer_all<M: Make>(
+    out: &mut impl Write,
+    post: &mut Post<M>,
+    input: Input,
+) -> anyhow::Result<()> {
     for line in input {
-        rt.println(post.answer(line))?;
+        writeln!(out, "{}", post.answer(line))?;
     }
     Ok(())
 }
