@@ -31,12 +31,13 @@ loop-digit-preserved c =
     let digit : b < 58 = digit_at c.args.digits.now c.loop-digit.digit-index c.requires.digits c.loop-digit-test.true in
     let next : i + 1 ≡ suc i = omega arith in
     let more : 10 * n + c.from.result ≡ n * 10 + (b - 48) = omega (arith, c.from.ensures) in
-    let power : 10 ^ (i + 1) ≡ 10 ^ i * 10 = ap (λ k. 10 ^ k) next ∙ pow-suc 10 i in
-    ( ap (λ x. number_from_digits_after 10 x (map (λ b. b - 48) (drop (i + 1) bs))) more
-    ∙ ap (λ k. number_from_digits_after 10 (n * 10 + (b - 48)) (map (λ b. b - 48) (drop k bs))) next
-    ∙ sym (ap (λ xs. number_from_digits_after 10 n (map (λ b. b - 48) xs)) (drop-cons bs i 0 c.loop-digit-test.true))
-    ∙ c.loop-digit.invariant.0
-    , omega (arith, power, digit, c.from.ensures, c.loop-digit.invariant.1))
+    let power : 10 ^ (i + 1) ≡ 10 ^ i * 10 = ap (λ k. 10 ^ k) next ∙ pow-suc 10 i in (
+      ap (λ x. number_from_digits_after 10 x (map (λ b. b - 48) (drop (i + 1) bs))) more
+          ∙ ap (λ k. number_from_digits_after 10 (n * 10 + (b - 48)) (map (λ b. b - 48) (drop k bs))) next
+          ∙ sym (ap (λ xs. number_from_digits_after 10 n (map (λ b. b - 48) xs)) (drop-cons bs i 0 c.loop-digit-test.true))
+          ∙ c.loop-digit.invariant.0,
+      omega (arith, power, digit, c.from.ensures, c.loop-digit.invariant.1),
+    )
 
 pub returns : goal.returns
 returns c =
