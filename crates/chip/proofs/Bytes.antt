@@ -1,12 +1,32 @@
 -- Numbers as bytes, the highest first.
-use Rattle.std.proofs.Common.{◌≡◌, ℕ, zero, suc, ◌+◌, ◌-◌, ◌*◌, ◌/◌, ◌^◌, ◌<◌, ◌≤◌, min, List, [], ◌∷◌, ◌++◌, length, get_or, take, drop, sym, refl, ap, ◌∙◌, ⊎_elim, w64, arith, lit<, pow-suc, take-suc}
+use Rattle.std.proofs.Common.{◌≡◌, ℕ, zero, suc, ◌+◌, ◌-◌, ◌*◌, ◌/◌, ◌^◌, ◌<◌, ◌≤◌, min, List, [], ◌∷◌, ◌++◌, length, get_or, take, drop, replicate, sym, refl, ap, ◌∙◌, ⊎_elim, append-nil, w64, arith, lit<, pow-suc}
 use native.Mathlib.Nat.{pow-le-pow_right}
 use Rattle.std.proofs.lemmas.Nat.{mul-add-lt}
-use Rattle.std.specs.Int.{to_be_bytes}
-use Rattle.std.proofs.lemmas.List.{drop_all, get_or-take, length-append, length-take, take_all}
+use Rattle.std.specs.Int.{from_be_bytes, to_be_bytes}
+use Rattle.std.proofs.lemmas.List.{drop_all, length-append, length-drop, length-replicate, take-replicate, take_all}
 use Rattle.std.proofs.lemmas.Bool.{cases_lt}
-use Rattle.std.proofs.Math.ListN.{get_or-eq_default}
+use borrow.Rule.Slice.PartMut.{put_mid}
 use Rattle.chip.specs.Registers.{big_endian, number}
+
+eight_of : (P : List ℕ → Type 0) → ((a b c d e f g h : ℕ) → P (a ∷ b ∷ c ∷ d ∷ e ∷ f ∷ g ∷ h ∷ [])) → (xs : List ℕ) → length xs ≡ 8 → P xs
+eight_of P f [] e = absurd (omega arith)
+eight_of P f (a ∷ []) e = absurd (omega arith)
+eight_of P f (a ∷ b ∷ []) e = absurd (omega arith)
+eight_of P f (a ∷ b ∷ c ∷ []) e = absurd (omega arith)
+eight_of P f (a ∷ b ∷ c ∷ d ∷ []) e = absurd (omega arith)
+eight_of P f (a ∷ b ∷ c ∷ d ∷ x ∷ []) e = absurd (omega arith)
+eight_of P f (a ∷ b ∷ c ∷ d ∷ x ∷ y ∷ []) e = absurd (omega arith)
+eight_of P f (a ∷ b ∷ c ∷ d ∷ x ∷ y ∷ z ∷ []) e = absurd (omega arith)
+eight_of P f (a ∷ b ∷ c ∷ d ∷ x ∷ y ∷ z ∷ w ∷ []) e = f a b c d x y z w
+eight_of P f (a ∷ b ∷ c ∷ d ∷ x ∷ y ∷ z ∷ w ∷ v ∷ xs) e = absurd (omega arith)
+
+-- the library's number of eight bytes is ours
+eight_is : (bs : List ℕ) → length bs ≡ 8 → from_be_bytes w64 bs ≡ number bs
+eight_is = eight_of (λ bs. from_be_bytes w64 bs ≡ number bs) (λ a b c d e f g h. omega arith)
+
+zeros_before : (k : ℕ) (bs : List ℕ) → number (replicate k 0 ++ bs) ≡ number bs
+zeros_before zero bs = refl
+zeros_before (suc k) bs = omega (arith, zeros_before k bs)
 
 -- the library's bytes are ours
 eight_bytes : (n : ℕ) → to_be_bytes w64 n ≡ big_endian 8 n
@@ -52,6 +72,19 @@ last_bytes w n count ys h e =
     ∙ over_all (big_endian w n) ys count (omega (arith, long, e))
     ∙ ap (λ x. take (length ys) (big_endian w n) ++ drop x ys) long
 
+-- bytes put at the end of eight zeros write the same number
+pub padded : (bs xs : List ℕ) → length bs ≤ 8 → xs ≡ bs → from_be_bytes w64 (put_mid (8 - length bs) (8 - (8 - length bs)) (replicate {A = ℕ} 8 0) xs) ≡ number bs
+padded bs xs h e =
+    let a = 8 - length bs in
+    let z : take a (replicate {A = ℕ} 8 0) ≡ replicate {A = ℕ} a 0 = take-replicate a 8 0 (omega arith) in
+    let none : drop (8 - a) (drop a (replicate {A = ℕ} 8 0)) ≡ [] = drop_all (8 - a) (drop a (replicate {A = ℕ} 8 0)) (let l = length-drop a (replicate {A = ℕ} 8 0) in omega arith) in
+    let long = length-append (replicate {A = ℕ} a 0) bs in
+    let zeros = length-replicate {A = ℕ} a 0 in
+    (λ j. from_be_bytes w64 (z j ++ (e j ++ none j)))
+    ∙ ap (λ ys. from_be_bytes w64 (replicate {A = ℕ} a 0 ++ ys)) (append-nil bs)
+    ∙ eight_is (replicate {A = ℕ} a 0 ++ bs) (omega (arith, long, zeros))
+    ∙ zeros_before a bs
+
 -- bytes write a number below their count's power of 256
 pub number_below : (bs : List ℕ) → ((i : ℕ) → get_or bs i 0 < 256) → number bs < 256 ^ length bs
 number_below [] h = omega arith
@@ -59,27 +92,3 @@ number_below (b ∷ bs) h =
     let low = number_below bs (λ i. h (suc i)) in
     let e : 256 ^ suc (length bs) ≡ 256 ^ length bs * 256 = pow-suc 256 (length bs) in
     omega (arith, e, mul-add-lt b (256 ^ length bs) (number bs) 256 (h 0) low)
-
--- one byte more
-number_snoc : (bs : List ℕ) (b : ℕ) → number (bs ++ b ∷ []) ≡ number bs * 256 + b
-number_snoc [] b = omega arith
-number_snoc (x ∷ xs) b =
-    let long : length (xs ++ b ∷ []) ≡ suc (length xs) = omega (arith, length-append xs (b ∷ [])) in
-    let e : 256 ^ length (xs ++ b ∷ []) ≡ 256 ^ length xs * 256 = ap (λ n. 256 ^ n) long ∙ pow-suc 256 (length xs) in
-    let f : x * 256 ^ length (xs ++ b ∷ []) ≡ x * 256 ^ length xs * 256 = ap (λ n. x * n) e ∙ omega arith in
-    omega (arith, f, number_snoc xs b)
-
--- the number in the first bytes, and in one byte more
-pub number_on : (bs : List ℕ) (i : ℕ) → i < length bs → number (take (i + 1) bs) ≡ number (take i bs) * 256 + get_or bs i 0
-number_on bs i h =
-    let e : i + 1 ≡ suc i = omega arith in
-    ap (λ n. number (take n bs)) e ∙ ap number (take-suc bs i 0 h) ∙ number_snoc (take i bs) (get_or bs i 0)
-
--- the first bytes of at most seven leave room for one more
-pub room_for_one : (bs : List ℕ) (i : ℕ) → ((j : ℕ) → get_or bs j 0 < 256) → i < length bs → length bs ≤ 8 → number (take i bs) < 256 ^ 7
-room_for_one bs i h inside short =
-    let long : length (take i bs) ≡ i = omega (arith, length-take i bs) in
-    let small : (j : ℕ) → get_or (take i bs) j 0 < 256 = λ j. ⊎_elim (λ (l : j < i). omega (arith, get_or-take i bs j 0 l, h j))
-    (λ (l : i ≤ j). omega (arith, get_or-eq_default (take i bs) 0 {n = j} (omega (arith, long, l)))) (cases_lt j i) in
-    let below = number_below (take i bs) small in
-    more_room (number (take i bs)) (length (take i bs)) 7 below (omega (arith, long))

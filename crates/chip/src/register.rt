@@ -92,11 +92,9 @@ pub(crate) fn number_of(bytes: &[u8]) -> u64
     ensures value { result ≡ number bytes.now }
     ensures bound { result < 256 ^ length bytes.now }
 {
-    let mut number = 0;
-    for byte in bytes {
-        number = number * 256 + u64::from(*byte);
-    }
-    number
+    let mut all = [0; 8];
+    all[8 - bytes.len()..].copy_from_slice(bytes);
+    u64::from_be_bytes(all)
 }
 
 // Puts a register's bytes, the highest first, at the start of `bytes`, as many as fit, and answers how many.
