@@ -106,11 +106,12 @@ fn spoilt_entries(entries: &[Entry]) -> usize
     spoilt
 }
 
-// How many are billed.
-fn sound_entries(entries: &[Entry]) -> usize
+// How many are billed, where so many are spoilt.
+fn sound_entries(entries: &[Entry], spoilt: usize) -> usize
+    requires { spoilt ≡ spoilt_entries entries.now }
     ensures { result ≡ sound_entries entries.now }
 {
-    entries.len() - spoilt_entries(entries)
+    entries.len() - spoilt
 }
 
 // Whether a book, a channel and a shunt are within their limits.
@@ -135,10 +136,11 @@ impl Book<'_> {
         if let Some(place) = ranges::first_bad::<M>(entries) {
             return Err(Refusal::BadEntry(place as u16));
         }
+        let spoilt = spoilt_entries(entries);
         Ok(Bill {
             energy: energy::<M>(entries, channel, shunt),
-            billed: sound_entries(entries),
-            spoilt: spoilt_entries(entries),
+            billed: sound_entries(entries, spoilt),
+            spoilt,
         })
     }
 }

@@ -21,12 +21,10 @@ fn in_range(bits: u32, two_way: bool, value: i128) -> bool
     requires { (0 < bits) × (bits ≤ 64) }
     ensures { result ≡ in_range bits two_way value }
 {
-    if two_way {
-        let half = size(bits - 1);
-        (-half..half).contains(&value)
-    } else {
-        (0..size(bits)).contains(&value)
-    }
+    let half = size(bits - 1);
+    let signed = (-half..half).contains(&value);
+    let plain = (0..size(bits)).contains(&value);
+    if two_way { signed } else { plain }
 }
 
 // Whether a channel, counted from 0, can have this sum, by an entry's own two-way mask. One that the make has not holds 0.

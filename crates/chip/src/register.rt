@@ -48,11 +48,12 @@ impl Format {
         ensures narrow { unsigned_abs result ≤ register + 2 ^ self.bits }
     {
         let plain = i128::from(register);
-        if self.two_way && plain >= self.half() {
-            plain - self.size()
+        let below = if self.two_way && plain >= self.half() {
+            self.size()
         } else {
-            plain
-        }
+            0
+        };
+        plain - below
     }
 
     pub(crate) fn contains(self, value: i128) -> bool

@@ -1,13 +1,12 @@
 //! A line's pieces between commas, as tokens that borrow their bytes from the line and know their place in it.
-ghost use Rattle.std.specs.Prelude.{◌≡◌, ◌+◌, ◌<◌, ◌^◌};
+ghost use Rattle.std.specs.Prelude.{◌≡◌, ◌+◌, ◌<◌, ◌≤◌, ◌^◌, true, length};
 ghost use Rattle.std.specs.Char.{is_ascii_digit};
 ghost use Rattle.std.specs.List.{list_all};
 ghost use Rattle.lines.specs.Cuts.{extent, pieces, placed};
-ghost use Rattle.lines.specs.Fields.{field_of};
+ghost use Rattle.lines.specs.Fields.{field_of, worth};
 
 use super::mark;
 use chip::refusal::Refusal;
-use std::str;
 
 #[derive(Clone, Copy)]
 pub struct Token<'a> {
@@ -60,11 +59,24 @@ impl<'a> Iterator for Tokens<'a> {
     }
 }
 
-// Whether all bytes are digits: `parse` would take a `+` too.
+// Whether all bytes are digits.
 fn is_decimal(text: &[u8]) -> bool
     ensures { result ≡ list_all is_ascii_digit text.now }
 {
     text.iter().all(|b| b.is_ascii_digit())
+}
+
+// What at most five digits are worth.
+fn worth(digits: &[u8]) -> u32
+    requires digits { list_all is_ascii_digit digits.now ≡ true }
+    requires few { length digits.now ≤ 5 }
+    ensures { result ≡ worth digits.now }
+{
+    let mut number = 0;
+    for digit in digits {
+        number = 10 * number + u32::from(*digit - b'0');
+    }
+    number
 }
 
 // A field's number: one to five digits, at most 65,535.
@@ -73,13 +85,11 @@ impl TryFrom<Token<'_>> for u16 {
 
     ghost try_from_gives = { λ token number. number ≡ field_of token.text.now };
 
-    #[tactic(auto, using(crate::proofs::Decimals::digits_are_text))]
     fn try_from(token: Token) -> Result<u16, Refusal> {
         let text = token.text;
-        if text.len() > 5 || !is_decimal(text) {
+        if text.is_empty() || text.len() > 5 || !is_decimal(text) {
             return Err(Refusal::Unreadable);
         }
-        let digits = str::from_utf8(text).map_err(|_| Refusal::Unreadable)?;
-        digits.parse().map_err(|_| Refusal::Unreadable)
+        u16::try_from(worth(text)).map_err(|_| Refusal::Unreadable)
     }
 }

@@ -1,5 +1,5 @@
 -- What the oldest outcome and the wire below make of a request.
-use Rattle.std.specs.Prelude.{◌≡◌, ℕ, Bool, true, false, List, [], ◌∷◌, Err, Result, refl}
+use Rattle.std.specs.Prelude.{◌≡◌, ℕ, Bool, true, false, List, [], ◌∷◌, Ok, Err, Result, refl}
 use Rattle.std.proofs.Common.{◌∙◌, ap, subst, sym}
 use Rattle.std.proofs.lemmas.Bool.{both_ways}
 use Rattle.chip.specs.declared.refusal.Refusal.{Refusal}
@@ -11,7 +11,7 @@ use Rattle.wire.specs.declared.scripted.Scripted.{Scripted}
 use Rattle.wire.specs.Scripted.{Played, Plays, ScriptedGoes, breaks, drops, passes_on, refuses, seen, with_none_left}
 use Rattle.wire.specs.Scripteds.{at}
 use Rattle.wire.specs.Scripts.{next, rest}
-use Rattle.wire.specs.Wire.{Goes, Heard, Reply, Transacted, broken, denied, told, too_short_or_long, transacted, unacknowledged}
+use Rattle.wire.specs.Wire.{Goes, Heard, Reply, Transacted, broken, denied, heard, heard_of, told, too_short_or_long, transacted, unacknowledged}
 
 -- what a promise says of a request of good length
 went_so : {W : Type 0} (goes : Goes W) (q : Request) → sized q ≡ true → {u w : W} {h : Heard} → Transacted goes u q h w → (b : Bool) × (r : Reply) × goes u q b r w × (h ≡ told q r)
@@ -36,3 +36,16 @@ module _ {W R : Type 0} (goes : Goes W) (q : Request) (ok : sized q ≡ true) (h
   played {asks} {u} {w} {r} p means =
       let g = plays_so asks means (seen u).outcomes (seen u).added u.below w.below r p.oldest in
       rw g.3 (transacted ok (subst (λ y. ScriptedGoes goes (seen u) q g.0 g.1 y) (λ i. at w.below (sym p.taken i) (sym p.same i)) g.2))
+
+-- what is answered to a read, with the bytes that it filled
+abbrev pub with_bytes : List ℕ → Result Unit Refusal → Result (List ℕ) Refusal
+with_bytes bs (Ok u) = Ok bs
+with_bytes bs (Err e) = Err e
+
+abbrev pub heard_bytes : Result (List ℕ) Refusal → Heard
+heard_bytes (Ok bs) = heard bs
+heard_bytes (Err e) = denied e
+
+pub heard_with : (bs : List ℕ) (r : Result Unit Refusal) → heard_bytes (with_bytes bs r) ≡ heard_of r bs
+heard_with bs (Ok u) = refl
+heard_with bs (Err e) = refl

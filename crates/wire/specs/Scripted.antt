@@ -1,5 +1,5 @@
 -- The scripted wire over any wire.
-use Rattle.std.specs.Prelude.{◌≡◌, ℕ, Bool, false, List, [], ◌∷◌, take, Ok, Err, Result}
+use Rattle.std.specs.Prelude.{◌≡◌, ℕ, Bool, false, List, [], ◌∷◌, Err, Result}
 use Rattle.chip.specs.declared.refusal.Refusal.{Refusal}
 use Rattle.chip.specs.declared.refusal.Refusal.TheVariants.{NotAcknowledged, Broken}
 use Rattle.chip.specs.declared.refusal.Who.TheVariants.{Wire}
@@ -8,7 +8,7 @@ use Rattle.wire.specs.declared.outcome.Outcome.{Outcome}
 use Rattle.wire.specs.declared.outcome.Outcome.TheVariants.{Pass, Refuse, Break, DropReply}
 use Rattle.wire.specs.declared.scripted.Scripted.{Scripted}
 use Rattle.wire.specs.Scripts.{left, next, rest}
-use Rattle.wire.specs.Wire.{Goes, Heard, Passes, Reply, broken, denied, heard, unacknowledged}
+use Rattle.wire.specs.Wire.{Goes, Passes, Reply, broken, unacknowledged}
 
 -- what a scripted wire is: the wire below, the outcomes not yet taken, the oldest first, and how many were ever added
 pub record Scripting (W : Type 0) : Type 0 where
@@ -52,8 +52,3 @@ pub record Played {W R : Type 0} (asks : W → Result R Refusal → W → Type 0
   pub oldest : Plays asks address (next u.outcomes) u.below r w.below
   pub taken : w.outcomes ≡ rest u.outcomes
   pub same : w.added ≡ u.added
-
--- what the answer to a read of so many bytes tells
-abbrev pub heard_reply : ℕ → Result (List ℕ) Refusal → Heard
-heard_reply n (Ok bs) = heard (take n bs)
-heard_reply n (Err e) = denied e

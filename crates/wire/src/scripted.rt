@@ -2,7 +2,7 @@
 ghost use Rattle.std.specs.Fn.{FnOnceReturnsAtMut};
 ghost use Rattle.std.specs.Prelude.{◌≡◌, ◌≤◌};
 ghost use Rattle.chip.specs.Chip.{read};
-ghost use Rattle.wire.specs.Scripted.{Played, ScriptedGoes, ScriptedPasses, heard_reply, seen, unplayed};
+ghost use Rattle.wire.specs.Scripted.{Played, ScriptedGoes, ScriptedPasses, seen, unplayed};
 ghost use Rattle.wire.specs.Scripts.{added_to};
 ghost use Rattle.wire.specs.Scripteds.{scripted_is_wire};
 ghost use Rattle.wire.specs.Wire.{Transacted};
@@ -82,20 +82,17 @@ impl<W: Wire> Wire for Scripted<W> {
         if !is_readable(length) {
             return Err(Refusal::Limits);
         }
-        // The reply has bytes of its own, which are the caller's only once they are answered.
-        let reply = self.play(
-            start,
-            |below: &mut W| -> Result<[u8; LONGEST_READ], Refusal>
-                requires { length ≤ LONGEST_READ }
-                ensures { Transacted W.Wire.goes below.old (read start length) (heard_reply length result) below.new }
-            {
+        match self.script.take() {
+            Outcome::Pass => self.below.read(start, bytes),
+            Outcome::Refuse => Err(Refusal::NotAcknowledged(Who::Wire, start)),
+            Outcome::Break => Err(Refusal::Broken(start)),
+            Outcome::DropReply => {
+                // A reply that is dropped goes to bytes of its own.
                 let mut reply = [0; LONGEST_READ];
-                below.read(start, &mut reply[..length])?;
-                Ok(reply)
-            },
-        )?;
-        bytes.copy_from_slice(&reply[..length]);
-        Ok(())
+                let _ = self.below.read(start, &mut reply[..length]);
+                Err(Refusal::Broken(start))
+            }
+        }
     }
 
     fn write(&mut self, address: u8, bytes: &[u8]) -> Result<(), Refusal> {

@@ -1,27 +1,48 @@
-use Rattle.std.proofs.Common.{length, sym, refl, rules}
-use Rattle.std.proofs.lemmas.Result.{err_from_is_err_and}
+use Rattle.std.proofs.Common.{length, Err, sym, refl, rules}
 use Rattle.chip.specs.Chip.{read}
-use Rattle.wire.proofs.Plays.{played}
-use Rattle.wire.specs.Scripted.{ScriptedGoes, heard_reply, seen}
+use Rattle.chip.specs.declared.refusal.Refusal.TheVariants.{NotAcknowledged, Broken}
+use Rattle.chip.specs.declared.refusal.Who.TheVariants.{Wire}
+use Rattle.wire.proofs.Plays.{heard_bytes, heard_with, played, with_bytes}
 use Rattle.wire.specs.Wire.{Transacted, too_short_or_long}
-use Rattle.wire.proofs.scripted.ScriptedWire.read.Given.{Over}
 use Rattle.wire.proofs.scripted.ScriptedWire.read.Goals as goal
-use Rattle.wire.proofs.scripted.ScriptedWire.read.Goals.{After-play}
 
 pub returns-then-not-is_readable-clause-went : goal.returns-then-not-is_readable-clause-went
 returns-then-not-is_readable-clause-went g c = too_short_or_long (sym c.if-not-is_readable.ensures)
 
--- the reply that was played is what the promise is about
-replied : (g : Over) (c : After-play g) → Transacted (λ u q b r w. ScriptedGoes g.W.Wire.goes (seen u) q b r (seen w)) c.args.self.now (read c.args.start (length c.args.bytes.now))
-    (heard_reply (length c.args.bytes.now) c.play.result) c.play.new.self
-replied g c =
-    let n = length c.args.bytes.now in
-    played g.W.Wire.goes (read c.args.start n) (sym c.if-not-is_readable.ensures) (heard_reply n) (λ e. refl) c.play.ensures (λ u w r d. search rules)
+pub returns-in-Pass-clause-went : goal.returns-in-Pass-clause-went
+returns-in-Pass-clause-went g c =
+    let bs = c.read.new.bytes in
+    let q = read c.args.start (length c.args.bytes.now) in
+    rw (← heard_with bs c.read.result) (played g.W.Wire.goes q (sym c.if-not-is_readable.ensures) heard_bytes (λ e. refl)
+    {asks = λ u r w. Transacted g.W.Wire.goes u q (heard_bytes r) w}
+    (record { oldest = rw (← c.in-Pass.ensures.value) (rw (heard_with bs c.read.result) c.read.ensures.went); taken = c.take.ensures.after; same = c.take.ensures.same })
+    (λ u w r a. a))
 
-pub returns-in_err-reply-clause-went : goal.returns-in_err-reply-clause-went
-returns-in_err-reply-clause-went g c =
-    let p = err_from_is_err_and c.from_residual.result c.from_residual.ensures.1 in
-    rw (p.1, p.2) (rw c.in_err-reply.was at (replied g (goal.at.returns-in_err-reply-clause-went g c).After-play))
+pub returns-in-Refuse-clause-went : goal.returns-in-Refuse-clause-went
+returns-in-Refuse-clause-went g c =
+    let q = read c.args.start (length c.args.bytes.now) in
+    played g.W.Wire.goes q (sym c.if-not-is_readable.ensures) heard_bytes (λ e. refl)
+    {asks = λ u r w. Transacted g.W.Wire.goes u q (heard_bytes r) w} {r = Err (NotAcknowledged Wire c.args.start)}
+    (record { oldest = rw (← c.in-Refuse.ensures.value) (refl, refl); taken = c.take.ensures.after; same = c.take.ensures.same })
+    (λ u w r a. a)
 
-pub returns-clause-went : goal.returns-clause-went
-returns-clause-went g c = rw c.copy_from_slice.ensures.after (rw c.in_ok-reply.was at (replied g (goal.at.returns-clause-went g c).After-play))
+pub returns-in-Break-clause-went : goal.returns-in-Break-clause-went
+returns-in-Break-clause-went g c =
+    let q = read c.args.start (length c.args.bytes.now) in
+    played g.W.Wire.goes q (sym c.if-not-is_readable.ensures) heard_bytes (λ e. refl)
+    {asks = λ u r w. Transacted g.W.Wire.goes u q (heard_bytes r) w} {r = Err (Broken c.args.start)}
+    (record { oldest = rw (← c.in-Break.ensures.value) (refl, refl); taken = c.take.ensures.after; same = c.take.ensures.same })
+    (λ u w r a. a)
+
+pub returns-in-DropReply-clause-went : goal.returns-in-DropReply-clause-went
+returns-in-DropReply-clause-went g c =
+    let q = read c.args.start (length c.args.bytes.now) in
+    let bs = c.read-in-DropReply.new.bytes in
+    played g.W.Wire.goes q (sym c.if-not-is_readable.ensures) heard_bytes (λ e. refl)
+    {asks = λ u r w. Transacted g.W.Wire.goes u q (heard_bytes r) w} {r = Err (Broken c.args.start)}
+    (record {
+      oldest = rw (← c.in-DropReply.ensures.value) (refl, (with_bytes bs c.read-in-DropReply.result, rw (heard_with bs c.read-in-DropReply.result) (search rules)));
+      taken = c.take.ensures.after;
+      same = c.take.ensures.same;
+    })
+    (λ u w r a. a)
