@@ -17,17 +17,6 @@ use makes::pac194x::Pac194x;
 use random::Random;
 use std::env;
 
-// What stands in a place that nothing was written to.
-const BLANK: Entry = Entry {
-    draw: 0,
-    spoilt: 0,
-    count: 0,
-    rate: 0,
-    off: 0,
-    two_way: 0,
-    sums: [0; 4],
-};
-
 const ROWS: [&str; 4] = ["cycles", "reads", "bookings", "bills"];
 
 fn main(rt: HostRuntime) -> anyhow::Result<()> {
@@ -75,13 +64,13 @@ fn work<M: Make + Drop, R: AllocGlobal>(
         "cycles" => wires::cycles::<M>(count, &mut random, &mut sum).map_err(refused)?,
         "reads" => wires::reads::<M>(count, &mut random, &mut sum).map_err(refused)?,
         "bookings" => {
-            let mut places = vec![in rt.alloc(); BLANK; bookings::PLACES]?;
+            let mut places = vec![in rt.alloc(); Entry::EMPTY; bookings::PLACES]?;
             bookings::work::<M>(places.as_mut_slice(), count, &mut random, &mut sum).map_err(
                 refused,
             )?
         }
         "bills" => {
-            let mut places = vec![in rt.alloc(); BLANK; bookings::PLACES]?;
+            let mut places = vec![in rt.alloc(); Entry::EMPTY; bookings::PLACES]?;
             bills::work::<M>(places.as_mut_slice(), count, &mut random, &mut sum)
         }
         _ => anyhow::bail!("no such row"),
