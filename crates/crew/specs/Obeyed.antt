@@ -5,6 +5,7 @@ use Rattle.chip.specs.Datasheet.{Datasheet}
 use Rattle.chip.specs.declared.refusal.Refusal.{Refusal}
 use Rattle.chip.specs.declared.refusal.Refusal.TheVariants.{Limits, Unreadable}
 use Rattle.chip.specs.declared.state.State.{State}
+use Rattle.crew.specs.declared.kind.Kind.{Kind}
 use Rattle.crew.specs.declared.reply.Reply.{Reply}
 use Rattle.crew.specs.declared.reply.Shown.{Shown}
 use Rattle.crew.specs.declared.reply.Shown.TheVariants as shown
@@ -30,6 +31,11 @@ word_of (Fault k) = word.Fault
 -- what is answered to a line that cannot be read
 abbrev pub unreadable : Reply
 unreadable = record { word = word.Line; outcome = Err Unreadable }
+
+-- what is answered to a line before the first `kind` line: that line is taken and shows nothing, every other is unreadable
+abbrev pub opened : Result Kind Refusal → Reply
+opened (Ok k) = record { word = word.Kind; outcome = Ok shown.Nothing }
+opened (Err e) = unreadable
 
 -- what the result of a call of the desk tells
 abbrev pub told : {A : Type 0} → (A → Shown) → Result A Refusal → Result Shown Refusal

@@ -1,9 +1,10 @@
 //! What is printed for a line.
 ghost use Rattle.std.specs.Prelude.{◌≡◌, Some};
 ghost use Rattle.std.specs.Fmt.{DisplaysOnOk};
-ghost use Rattle.crew.specs.Obeyed.{word_of};
+ghost use Rattle.crew.specs.Obeyed.{opened, word_of};
 ghost use Rattle.crew.specs.Prints.{entry_fields, fields_of, printed, stretch_fields, sum_fields, text_of};
 
+use super::kind::Kind;
 use super::request::Request;
 use book::bill::Bill;
 use chip::entry::Entry;
@@ -76,17 +77,24 @@ impl Word {
 }
 
 impl Reply {
-    /// A `kind` line that was taken.
-    pub const KIND: Reply = Reply {
-        word: Word::Kind,
-        outcome: Ok(Shown::Nothing),
-    };
-
     /// A line that cannot be read.
     pub const UNREADABLE: Reply = Reply {
         word: Word::Line,
         outcome: Err(Refusal::Unreadable),
     };
+
+    /// The reply to a line before there is a post: the `kind` line that begins it is taken, and no other can be read.
+    pub fn opening(kind: &Result<Kind, Refusal>) -> Reply
+        ensures { result ≡ opened kind.now }
+    {
+        match kind {
+            Ok(_) => Reply {
+                word: Word::Kind,
+                outcome: Ok(Shown::Nothing),
+            },
+            Err(_) => Reply::UNREADABLE,
+        }
+    }
 }
 
 // What an entry says beside its sums.

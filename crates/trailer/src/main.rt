@@ -33,10 +33,12 @@ fn main(rt: HostRuntime) -> anyhow::Result<()> {
 // Before a good `kind` line nothing else can be read.
 fn run(rt: &impl Print, mut input: Input) -> anyhow::Result<()> {
     for line in input.by_ref() {
-        match Kind::read(line) {
+        let kind = Kind::read(line);
+        rt.println(Reply::opening(&kind))?;
+        match kind {
             Ok(Kind::Pac193x) => return serve::<Pac193x>(rt, input),
             Ok(Kind::Pac194x) => return serve::<Pac194x>(rt, input),
-            Err(_) => rt.println(Reply::UNREADABLE)?,
+            Err(_) => {}
         }
     }
     Ok(())
@@ -45,7 +47,6 @@ fn run(rt: &impl Print, mut input: Input) -> anyhow::Result<()> {
 // Every line after the `kind` line. All that can fail stands where the post is lent, so that it always ends, and with it a slip
 // that is still in hand.
 fn serve<M: Make>(rt: &impl Print, input: Input) -> anyhow::Result<()> {
-    rt.println(Reply::KIND)?;
     let mut places = [EMPTY; PLACES];
     let mut post = Post::<M>::new(&mut places);
     let served = answer_all(rt, &mut post, input);

@@ -25,10 +25,12 @@ pub(crate) fn replies(alloc: Global, text: &[u8]) -> Result<String, AllocError> 
     let mut replies = String::new(alloc);
     let mut input = Input::new(text);
     for line in input.by_ref() {
-        match Kind::read(line) {
+        let kind = Kind::read(line);
+        add(&mut replies, Reply::opening(&kind))?;
+        match kind {
             Ok(Kind::Pac193x) => return serve::<Pac193x>(replies, input),
             Ok(Kind::Pac194x) => return serve::<Pac194x>(replies, input),
-            Err(_) => add(&mut replies, Reply::UNREADABLE)?,
+            Err(_) => {}
         }
     }
     Ok(replies)
@@ -36,7 +38,6 @@ pub(crate) fn replies(alloc: Global, text: &[u8]) -> Result<String, AllocError> 
 
 // Every line after the `kind` line. All that can fail stands where the post is lent, so that it always ends.
 fn serve<M: Make>(mut replies: String, input: Input) -> Result<String, AllocError> {
-    add(&mut replies, Reply::KIND)?;
     let mut places = [EMPTY; PLACES];
     let mut post = Post::<M>::new(&mut places);
     let served = answer_all(&mut replies, &mut post, input);
