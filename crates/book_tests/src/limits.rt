@@ -41,7 +41,15 @@ fn within_their_limits(rt: HostRuntime) {
     ] {
         let book = Book::new(&mut all[..places], filled);
         checks::same(&rt, book.within_limits(), true);
-        checks::same(&rt, book.bill::<Pac193x>(channel, shunt), bill(0, filled, 0));
-        checks::same(&rt, book.bill::<Pac194x>(channel, shunt), bill(0, filled, 0));
+        checks::same(
+            &rt,
+            book.bill::<Pac193x>(channel, shunt),
+            bill(0, filled, 0),
+        );
+        checks::same(
+            &rt,
+            book.bill::<Pac194x>(channel, shunt),
+            bill(0, filled, 0),
+        );
     }
 }

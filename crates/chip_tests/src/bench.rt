@@ -86,7 +86,11 @@ impl<M: Make, R: Abort> Bench<'_, M, R> {
 
     // That an answer is the chip's refusal, at this address.
     pub(crate) fn assert_refused(&self, answer: Result<(), Refusal>, address: u8) {
-        checks::same(self.rt, answer, Err(Refusal::NotAcknowledged(Who::Chip, address)));
+        checks::same(
+            self.rt,
+            answer,
+            Err(Refusal::NotAcknowledged(Who::Chip, address)),
+        );
     }
 }
 

@@ -50,9 +50,17 @@ fn refuses_others<M: Known, R: Abort>(bench: &Bench<M, R>) {
 // A bad length comes first, whatever the address, and leaves the bytes.
 fn refuses_lengths<M: Known, R: Abort>(bench: &Bench<M, R>) {
     for address in 0..=255 {
-        checks::same(bench.rt, bench.chip.read(address, &mut []), Err(Refusal::Limits));
+        checks::same(
+            bench.rt,
+            bench.chip.read(address, &mut []),
+            Err(Refusal::Limits),
+        );
         let mut bytes = [0xaa; 65];
-        checks::same(bench.rt, bench.chip.read(address, &mut bytes), Err(Refusal::Limits));
+        checks::same(
+            bench.rt,
+            bench.chip.read(address, &mut bytes),
+            Err(Refusal::Limits),
+        );
         checks::same(bench.rt, bytes, [0xaa; 65]);
     }
 }

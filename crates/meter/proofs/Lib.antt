@@ -1,6 +1,5 @@
 pub mod Alone
 pub mod Offers
-pub mod Slices
 pub mod Failing
 pub mod Items
 pub mod Writing

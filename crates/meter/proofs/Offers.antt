@@ -1,5 +1,5 @@
 -- A set-up that is within the limits and offered is stored; any other is refused.
-use Rattle.std.proofs.Common.{◌≡◌, ℕ, ◌≤◌, Bool, true, false, cond, ◌&&◌, leb, Ok, Err, Result, sym, refl, ap, ◌∙◌, subst, ⊎_elim, arith}
+use Rattle.std.proofs.Common.{◌≡◌, ℕ, Bool, true, false, cond, ◌&&◌, leb, Ok, Err, refl, ⊎_elim, arith}
 use Rattle.std.proofs.lemmas.Bool.{and_from, both_ways, cases_Bool, le-leb}
 use Rattle.account.proofs.Wires.{ends_followed}
 use Rattle.account.specs.Calls.{Followed}

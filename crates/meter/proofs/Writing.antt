@@ -2,7 +2,7 @@
 use Rattle.std.proofs.Common.{◌≡◌, ℕ, ◌+◌, List, [], ◌∷◌, drop, sym, refl, subst}
 use Rattle.account.proofs.Wires.{answered_on}
 use Rattle.account.specs.Calls.{Followed}
-use Rattle.account.specs.Dialogue.{Meter, at, closes, or_fails, refused, sets, unfinished}
+use Rattle.account.specs.Dialogue.{Meter, at, or_fails, refused, sets, unfinished}
 use Rattle.chip.specs.Chip.{write}
 use Rattle.chip.specs.Datasheet.{Datasheet}
 use Rattle.chip.specs.declared.refusal.Refusal.{Refusal}

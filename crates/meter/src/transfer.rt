@@ -46,7 +46,7 @@ pub(crate) fn write_settings<W: Wire>(
     Ok(())
 }
 
-// Reads into the scratch, and copies what came.
+// Reads a reply, and lays it on the scratch too.
 fn fetch<W: Wire>(
     wire: &mut W,
     address: u8,
@@ -57,8 +57,8 @@ fn fetch<W: Wire>(
     ensures { Fetched W.Wire.goes wire.old address (length copy.old) scratch.old copy.old result scratch.new copy.new wire.new }
 {
     let count = copy.len();
-    wire.read(address, &mut scratch[0..count])?;
-    copy.copy_from_slice(&scratch[0..count]);
+    wire.read(address, copy)?;
+    scratch[0..count].copy_from_slice(copy);
     Ok(())
 }
 

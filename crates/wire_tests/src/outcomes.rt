@@ -63,13 +63,21 @@ fn reads(rt: HostRuntime) {
 fn writes(rt: HostRuntime) {
     for (number, outcome) in OUTCOMES {
         let mut wire = bench(&rt, number);
-        checks::same(&rt, wire.write(0x1c, &[0x50]), expected(outcome, 0x1c, true));
-        checks::same(&rt, shown(&rt, &mut wire, 0x1c),
-            if is_carried(outcome) { 0x50 } else { 0x00 }
+        checks::same(
+            &rt,
+            wire.write(0x1c, &[0x50]),
+            expected(outcome, 0x1c, true),
+        );
+        checks::same(
+            &rt,
+            shown(&rt, &mut wire, 0x1c),
+            if is_carried(outcome) { 0x50 } else { 0x00 },
         );
         let mut wire = bench(&rt, number);
-        checks::same(&rt, wire.write(0x1c, &[0x50, 0x51]),
-            expected(outcome, 0x1c, false)
+        checks::same(
+            &rt,
+            wire.write(0x1c, &[0x50, 0x51]),
+            expected(outcome, 0x1c, false),
         );
         checks::same(&rt, shown(&rt, &mut wire, 0x1c), 0x00);
     }
@@ -79,11 +87,17 @@ fn writes(rt: HostRuntime) {
 fn sends(rt: HostRuntime) {
     for (number, outcome) in OUTCOMES {
         let mut wire = bench(&rt, number);
-        checks::same(&rt, wire.write(0x1c, &[0x50]), expected(outcome, 0x1c, true));
+        checks::same(
+            &rt,
+            wire.write(0x1c, &[0x50]),
+            expected(outcome, 0x1c, true),
+        );
         checks::same(&rt, wire.add(number), Ok(()));
         checks::same(&rt, wire.send(0x00), expected(outcome, 0x00, true));
-        checks::same(&rt, shown(&rt, &mut wire, 0x22),
-            if is_carried(outcome) { 0x50 } else { 0x00 }
+        checks::same(
+            &rt,
+            shown(&rt, &mut wire, 0x22),
+            if is_carried(outcome) { 0x50 } else { 0x00 },
         );
         checks::same(&rt, wire.add(number), Ok(()));
         checks::same(&rt, wire.send(0x1e), expected(outcome, 0x1e, false));
@@ -97,8 +111,10 @@ fn what_takes_none(rt: HostRuntime) {
     checks::same(&rt, wire.read(0x1b, &mut []), Err(Refusal::Limits));
     checks::same(&rt, wire.read(0x21, &mut [0; 65]), Err(Refusal::Limits));
     wire.cycle([Codes { bus: 4, sense: 4 }; 4]);
-    checks::same(&rt, wire.send(0x00),
-        Err(Refusal::NotAcknowledged(Who::Wire, 0x00))
+    checks::same(
+        &rt,
+        wire.send(0x00),
+        Err(Refusal::NotAcknowledged(Who::Wire, 0x00)),
     );
     checks::same(&rt, wire.send(0x00), Ok(()));
     let mut count = [0; 3];
