@@ -1,5 +1,6 @@
 //! What books are worth.
 use crate::cases::{ONE_WAY, TWO_WAY, bill, bills, with_sum};
+use crate::checks::same;
 use book::book::{Book, MOST_PLACES};
 use chip::chip::Chip;
 use chip::entry::Entry;
@@ -19,16 +20,16 @@ fn a_cycle_billed(rt: HostRuntime) {
     };
     let mut chip: Chip<Pac193x> = Chip::new();
     chip.cycle([busy, still, still, still]);
-    checks::same(&rt, chip.send(0x00), Ok(()));
+    same(&rt, chip.send(0x00), Ok(()));
     let mut replies = [0; 30];
-    checks::same(&rt, chip.read(0x02, &mut replies[..27]), Ok(()));
-    checks::same(&rt, chip.read(0x24, &mut replies[27..]), Ok(()));
+    same(&rt, chip.read(0x02, &mut replies[..27]), Ok(()));
+    same(&rt, chip.read(0x24, &mut replies[27..]), Ok(()));
     let mut places = [ONE_WAY; 2];
     let mut book = Book::new(&mut places, 0);
-    checks::same(&rt, book.put(Pac193x::entry_in(&replies, 1)), Ok(()));
-    checks::same(&rt, book.bill::<Pac193x>(1, 100), bill(58, 1, 0));
-    checks::same(&rt, book.bill::<Pac193x>(2, 100), bill(0, 1, 0));
-    checks::same(&rt, places[0].sums, [50_000_000, 0, 0, 0]);
+    same(&rt, book.put(Pac193x::entry_in(&replies, 1)), Ok(()));
+    same(&rt, book.bill::<Pac193x>(1, 100), bill(58, 1, 0));
+    same(&rt, book.bill::<Pac193x>(2, 100), bill(0, 1, 0));
+    same(&rt, places[0].sums, [50_000_000, 0, 0, 0]);
 }
 
 // Each weight, one-way and two-way, over 0.7 milliohm.
@@ -120,7 +121,7 @@ fn nothing_to_bill(rt: HostRuntime) {
     };
     let mut places = [spoilt; 2];
     let book = Book::new(&mut places, 0);
-    checks::same(&rt, book.bill::<Pac193x>(1, 100), bill(0, 0, 0));
+    same(&rt, book.bill::<Pac193x>(1, 100), bill(0, 0, 0));
     bills::<Pac193x>(&rt, &mut [spoilt; 3], 1, 100, bill(0, 0, 3));
     let sound = with_sum(ONE_WAY, 50_000_000);
     bills::<Pac193x>(&rt, &mut [spoilt, sound, spoilt], 1, 100, bill(58, 1, 2));

@@ -1,5 +1,6 @@
 //! How a book fills.
 use crate::cases::ONE_WAY;
+use crate::checks::same;
 use book::book::Book;
 use chip::entry::Entry;
 use chip::refusal::Refusal;
@@ -13,14 +14,14 @@ fn drawn(draw: u32) -> Entry {
 fn fills_and_is_full(rt: HostRuntime) {
     let mut places = [drawn(9); 3];
     let mut book = Book::new(&mut places, 1);
-    checks::same(&rt, book.is_full(), false);
-    checks::same(&rt, book.put(drawn(5)), Ok(()));
-    checks::same(&rt, book.put(drawn(6)), Ok(()));
-    checks::same(&rt, book.is_full(), true);
-    checks::same(&rt, book.put(drawn(7)), Err(Refusal::Full));
-    checks::same(&rt, book.put(drawn(8)), Err(Refusal::Full));
-    checks::same(&rt, book.within_limits(), true);
-    checks::same(&rt, places.map(|entry| entry.draw), [9, 5, 6]);
+    same(&rt, book.is_full(), false);
+    same(&rt, book.put(drawn(5)), Ok(()));
+    same(&rt, book.put(drawn(6)), Ok(()));
+    same(&rt, book.is_full(), true);
+    same(&rt, book.put(drawn(7)), Err(Refusal::Full));
+    same(&rt, book.put(drawn(8)), Err(Refusal::Full));
+    same(&rt, book.within_limits(), true);
+    same(&rt, places.map(|entry| entry.draw), [9, 5, 6]);
 }
 
 // More filled than there are places: full, and outside its limits.
@@ -28,8 +29,8 @@ fn fills_and_is_full(rt: HostRuntime) {
 fn overfilled(rt: HostRuntime) {
     let mut places = [drawn(9); 2];
     let mut book = Book::new(&mut places, 3);
-    checks::same(&rt, book.is_full(), true);
-    checks::same(&rt, book.put(drawn(5)), Err(Refusal::Full));
-    checks::same(&rt, book.within_limits(), false);
-    checks::same(&rt, places.map(|entry| entry.draw), [9, 9]);
+    same(&rt, book.is_full(), true);
+    same(&rt, book.put(drawn(5)), Err(Refusal::Full));
+    same(&rt, book.within_limits(), false);
+    same(&rt, places.map(|entry| entry.draw), [9, 9]);
 }

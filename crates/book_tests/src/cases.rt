@@ -1,4 +1,5 @@
 //! Entries to make others from, and the one comparison of a bill with what is known of it.
+use crate::checks::same;
 use book::bill::Bill;
 use book::book::Book;
 use chip::entry::Entry;
@@ -52,5 +53,5 @@ pub(crate) fn bills<M: Make>(
 ) {
     let filled = entries.len();
     let book = Book::new(entries, filled);
-    checks::same(rt, book.bill::<M>(channel, shunt), expected);
+    same(rt, book.bill::<M>(channel, shunt), expected);
 }

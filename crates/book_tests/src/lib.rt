@@ -8,6 +8,8 @@ mod books;
 #[cfg(test)]
 mod cases;
 #[cfg(test)]
+mod checks;
+#[cfg(test)]
 mod limits;
 #[cfg(test)]
 mod ranges;

@@ -1,5 +1,6 @@
 //! Books, channels and shunts outside their limits.
 use crate::cases::{ONE_WAY, bill};
+use crate::checks::same;
 use book::book::Book;
 use chip::entry::Entry;
 use chip::refusal::Refusal;
@@ -24,8 +25,8 @@ fn outside_their_limits(rt: HostRuntime) {
     ] {
         let book = Book::new(&mut all[..places], filled);
         let refused = Err(Refusal::Limits);
-        checks::same(&rt, book.bill::<Pac193x>(channel, shunt), refused);
-        checks::same(&rt, book.bill::<Pac194x>(channel, shunt), refused);
+        same(&rt, book.bill::<Pac193x>(channel, shunt), refused);
+        same(&rt, book.bill::<Pac194x>(channel, shunt), refused);
     }
 }
 
@@ -40,13 +41,13 @@ fn within_their_limits(rt: HostRuntime) {
         (4096, 2, 4, 1),
     ] {
         let book = Book::new(&mut all[..places], filled);
-        checks::same(&rt, book.within_limits(), true);
-        checks::same(
+        same(&rt, book.within_limits(), true);
+        same(
             &rt,
             book.bill::<Pac193x>(channel, shunt),
             bill(0, filled, 0),
         );
-        checks::same(
+        same(
             &rt,
             book.bill::<Pac194x>(channel, shunt),
             bill(0, filled, 0),

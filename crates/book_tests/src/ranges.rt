@@ -1,5 +1,6 @@
 //! Entries beyond the ranges of their make, and those just within.
 use crate::cases::{ONE_WAY, TWO_WAY, bill, with_sum};
+use crate::checks::same;
 use book::book::Book;
 use chip::entry::Entry;
 use chip::make::Make;
@@ -17,7 +18,7 @@ fn refuses<M: Make>(rt: &impl Abort, bad: Entry) {
         (4, Err(Refusal::BadEntry(2))),
     ] {
         let book = Book::new(&mut places, filled);
-        checks::same(rt, book.bill::<M>(4, 100), answer);
+        same(rt, book.bill::<M>(4, 100), answer);
     }
 }
 
@@ -32,7 +33,7 @@ fn takes<M: Make>(rt: &impl Abort, good: Entry) {
     let spoilt = Entry { spoilt: 1, ..good };
     let mut places = [good, spoilt];
     let book = Book::new(&mut places, 2);
-    checks::same(rt, book.bill::<M>(4, 100), bill(0, 1, 1));
+    same(rt, book.bill::<M>(4, 100), bill(0, 1, 1));
 }
 
 // The same sum on channels 1 to 3 in turn, and 0 elsewhere.

@@ -1,4 +1,5 @@
 //! A chip on the bench, and the handle by which a check that fails ends the test.
+use crate::checks::same;
 use crate::known::{Known, Writes};
 use chip::chip::Chip;
 use chip::make::Make;
@@ -59,7 +60,7 @@ impl<'a, M: Make, R> Bench<'a, M, R> {
 
 impl<M: Make, R: Abort> Bench<'_, M, R> {
     pub(crate) fn write(&mut self, address: u8, bytes: &[u8]) {
-        checks::same(self.rt, self.chip.write(address, bytes), Ok(()));
+        same(self.rt, self.chip.write(address, bytes), Ok(()));
     }
 
     pub(crate) fn write_all(&mut self, writes: Writes) {
@@ -69,11 +70,11 @@ impl<M: Make, R: Abort> Bench<'_, M, R> {
     }
 
     pub(crate) fn send(&mut self, command: u8) {
-        checks::same(self.rt, self.chip.send(command), Ok(()));
+        same(self.rt, self.chip.send(command), Ok(()));
     }
 
     pub(crate) fn read(&self, address: u8, bytes: &mut [u8]) {
-        checks::same(self.rt, self.chip.read(address, bytes), Ok(()));
+        same(self.rt, self.chip.read(address, bytes), Ok(()));
     }
 
     // The number that a register shows.
@@ -86,7 +87,7 @@ impl<M: Make, R: Abort> Bench<'_, M, R> {
 
     // That an answer is the chip's refusal, at this address.
     pub(crate) fn assert_refused(&self, answer: Result<(), Refusal>, address: u8) {
-        checks::same(
+        same(
             self.rt,
             answer,
             Err(Refusal::NotAcknowledged(Who::Chip, address)),

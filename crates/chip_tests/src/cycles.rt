@@ -1,5 +1,6 @@
 //! Cycles under every mask, and registers that run over.
 use crate::bench::{Bench, REFRESH, REFRESH_V};
+use crate::checks::same;
 use crate::known::Known;
 use chip::state::Codes;
 use makes::pac193x::Pac193x;
@@ -20,7 +21,7 @@ fn shows_sums<M: Known, R: Abort>(bench: &Bench<M, R>, off: u8, two_way: u8) {
         } else {
             M::ONE_WAY
         };
-        checks::same(bench.rt, bench.number_at(address, M::SUM_WIDTH), expected);
+        same(bench.rt, bench.number_at(address, M::SUM_WIDTH), expected);
     }
 }
 
@@ -33,7 +34,7 @@ fn every_mask<M: Known>(rt: &impl Abort) {
             bench.cycles(1, on_all(4, 65532));
             bench.send(REFRESH);
             let counted = u64::from(off != 15);
-            checks::same(rt, bench.number_at(0x02, M::COUNT_WIDTH), counted);
+            same(rt, bench.number_at(0x02, M::COUNT_WIDTH), counted);
             shows_sums(&bench, off, two_way);
         }
     }
@@ -50,13 +51,13 @@ fn every_mask_on_both_makes(rt: HostRuntime) {
 fn a_sum_runs_over(rt: HostRuntime) {
     let mut bench: Bench<Pac193x, _> = Bench::new(&rt);
     bench.cycles(1_048_704, on_all(65535, 65535));
-    checks::same(&rt, bench.number_at(0x21, 1), 0);
+    same(&rt, bench.number_at(0x21, 1), 0);
     bench.cycles(1, on_all(65535, 65535));
-    checks::same(&rt, bench.number_at(0x21, 1), 1);
+    same(&rt, bench.number_at(0x21, 1), 1);
     bench.send(REFRESH);
-    checks::same(&rt, bench.number_at(0x03, 6), 265_257_089);
-    checks::same(&rt, bench.number_at(0x24, 1), 1);
-    checks::same(&rt, bench.number_at(0x21, 1), 0);
+    same(&rt, bench.number_at(0x03, 6), 265_257_089);
+    same(&rt, bench.number_at(0x24, 1), 1);
+    same(&rt, bench.number_at(0x21, 1), 0);
 }
 
 // Products of -134,209,536 pass -2^47 in cycle 1,048,641.
@@ -66,22 +67,22 @@ fn a_two_way_sum_runs_under(rt: HostRuntime) {
     bench.write(0x1d, &[0xf0]);
     bench.send(REFRESH);
     bench.cycles(1_048_640, on_all(65535, 32768));
-    checks::same(&rt, bench.number_at(0x21, 1), 0);
+    same(&rt, bench.number_at(0x21, 1), 0);
     bench.cycles(1, on_all(65535, 32768));
-    checks::same(&rt, bench.number_at(0x21, 1), 1);
+    same(&rt, bench.number_at(0x21, 1), 1);
 }
 
 #[test]
 fn a_count_runs_over(rt: HostRuntime) {
     let mut bench: Bench<Pac193x, _> = Bench::new(&rt);
     bench.cycles(16_777_215, on_all(4, 4));
-    checks::same(&rt, bench.number_at(0x21, 1), 0);
+    same(&rt, bench.number_at(0x21, 1), 0);
     bench.send(REFRESH_V);
-    checks::same(&rt, bench.number_at(0x02, 3), 16_777_215);
+    same(&rt, bench.number_at(0x02, 3), 16_777_215);
     bench.cycles(1, on_all(4, 4));
     bench.send(REFRESH_V);
-    checks::same(&rt, bench.number_at(0x02, 3), 0);
-    checks::same(&rt, bench.number_at(0x24, 1), 1);
+    same(&rt, bench.number_at(0x02, 3), 0);
+    same(&rt, bench.number_at(0x24, 1), 1);
 }
 
 // Products of 1,073,659,905 pass 2^56 in cycle 67,113,985; the flags stand apart.
@@ -90,8 +91,8 @@ fn a_long_sum_runs_over(rt: HostRuntime) {
     let mut bench: Bench<Pac194x, _> = Bench::new(&rt);
     bench.cycles(67_113_984, on_all(65535, 65535));
     bench.send(REFRESH_V);
-    checks::same(&rt, bench.number_at(0x26, 3), 0);
+    same(&rt, bench.number_at(0x26, 3), 0);
     bench.cycles(1, on_all(65535, 65535));
     bench.send(REFRESH_V);
-    checks::same(&rt, bench.number_at(0x26, 3), 8);
+    same(&rt, bench.number_at(0x26, 3), 8);
 }

@@ -1,5 +1,6 @@
 //! Every listed address as a read's start, every unlisted one, and lengths out of limits.
 use crate::bench::Bench;
+use crate::checks::same;
 use crate::known::Known;
 use chip::refusal::Refusal;
 use makes::pac193x::Pac193x;
@@ -11,7 +12,7 @@ use std::process::Abort;
 fn reads_as<M: Known, R: Abort>(bench: &Bench<M, R>, address: u8, bytes: &mut [u8], shown: &[u8]) {
     bench.read(address, bytes);
     for (read, expected) in bytes.iter().zip(shown.iter().chain(iter::repeat(&0xff))) {
-        checks::same(bench.rt, read, expected);
+        same(bench.rt, read, expected);
     }
 }
 
@@ -42,7 +43,7 @@ fn refuses_others<M: Known, R: Abort>(bench: &Bench<M, R>) {
         if !is_listed::<M>(address) {
             let mut bytes = [0xaa; 64];
             bench.assert_refused(bench.chip.read(address, &mut bytes), address);
-            checks::same(bench.rt, bytes, [0xaa; 64]);
+            same(bench.rt, bytes, [0xaa; 64]);
         }
     }
 }
@@ -50,18 +51,18 @@ fn refuses_others<M: Known, R: Abort>(bench: &Bench<M, R>) {
 // A bad length comes first, whatever the address, and leaves the bytes.
 fn refuses_lengths<M: Known, R: Abort>(bench: &Bench<M, R>) {
     for address in 0..=255 {
-        checks::same(
+        same(
             bench.rt,
             bench.chip.read(address, &mut []),
             Err(Refusal::Limits),
         );
         let mut bytes = [0xaa; 65];
-        checks::same(
+        same(
             bench.rt,
             bench.chip.read(address, &mut bytes),
             Err(Refusal::Limits),
         );
-        checks::same(bench.rt, bytes, [0xaa; 65]);
+        same(bench.rt, bytes, [0xaa; 65]);
     }
 }
 

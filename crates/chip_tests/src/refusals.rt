@@ -1,4 +1,5 @@
 //! What the refusals of the tests tell: a number, an address and who refused.
+use crate::checks::same;
 use chip::refusal::{Refusal, Who};
 
 #[test]
@@ -20,8 +21,8 @@ fn what_a_refusal_tells(rt: HostRuntime) {
         (Refusal::Broken(0x1f), 3, Some(0x1f), Some(1)),
         (Refusal::Full, 8, None, None),
     ] {
-        checks::same(&rt, refusal.number(), number);
-        checks::same(&rt, refusal.at_address(), address);
-        checks::same(&rt, refusal.refused_by().map(Who::number), who);
+        same(&rt, refusal.number(), number);
+        same(&rt, refusal.at_address(), address);
+        same(&rt, refusal.refused_by().map(Who::number), who);
     }
 }

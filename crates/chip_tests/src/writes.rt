@@ -1,5 +1,6 @@
 //! Writes of every length at every address, and every send. A refused one leaves the chip as it was.
 use crate::bench::Bench;
+use crate::checks::same;
 use crate::known::Known;
 use makes::pac193x::Pac193x;
 use makes::pac194x::Pac194x;
@@ -33,7 +34,7 @@ fn refuses_writes<M: Known, R: Abort>(bench: &mut Bench<M, R>) {
             }
         }
     }
-    checks::same(bench.rt, look(bench), before);
+    same(bench.rt, look(bench), before);
 }
 
 // Sends are taken at 00h and 1Fh, and nowhere else.
@@ -45,7 +46,7 @@ fn refuses_sends<M: Known, R: Abort>(bench: &mut Bench<M, R>) {
             bench.assert_refused(answer, address);
         }
     }
-    checks::same(bench.rt, look(bench), before);
+    same(bench.rt, look(bench), before);
 }
 
 fn what_it_refuses<M: Known>(rt: &impl Abort) {

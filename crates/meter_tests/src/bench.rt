@@ -1,4 +1,5 @@
 //! Meters on the bench, what is known of each make, and calls whose answer is settled beforehand.
+use crate::checks::same;
 use book::bill::Bill;
 use book::book::Book;
 use chip::entry::Entry;
@@ -103,7 +104,7 @@ pub(crate) fn cycles<W: Wire>(meter: &mut Meter<W>, n: u16) {
 // Adds outcomes to the script of a meter's wire.
 pub(crate) fn script<M: Make>(rt: &impl Abort, meter: &mut Faulty<M>, outcomes: &[u8]) {
     for outcome in outcomes {
-        checks::same(rt, meter.add(*outcome), Ok(()));
+        same(rt, meter.add(*outcome), Ok(()));
     }
 }
 
@@ -169,7 +170,7 @@ pub(crate) fn unbooked(rt: &impl Abort, answer: Result<Entry, Unspent>, expected
     match answer {
         Ok(_) => panic!(rt; "a booking is done"),
         Err(Unspent { slip, refusal }) => {
-            checks::same(rt, refusal, expected);
+            same(rt, refusal, expected);
             slip
         }
     }
@@ -180,7 +181,7 @@ pub(crate) fn unwritten(rt: &impl Abort, answer: Result<(), Unspent>, expected: 
     match answer {
         Ok(()) => panic!(rt; "a write-off is done"),
         Err(Unspent { slip, refusal }) => {
-            checks::same(rt, refusal, expected);
+            same(rt, refusal, expected);
             slip
         }
     }

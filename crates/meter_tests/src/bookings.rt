@@ -1,5 +1,6 @@
 //! Bookings that are refused, and what each leaves; the scratch; the largest book.
 use crate::bench::{self, Known};
+use crate::checks::same;
 use book::book::Book;
 use chip::entry::Entry;
 use chip::make::Make;
@@ -29,9 +30,9 @@ fn refused<W: Wire>(
     let condition = meter.condition();
     let answer = meter.book(slip, book, &mut scratch[..length]);
     let slip = bench::unbooked(rt, answer, expected);
-    checks::same(rt, (slip.meter(), slip.draw()), numbers);
-    checks::same(rt, meter.condition(), condition);
-    checks::same(rt, scratch, [FILL; 40]);
+    same(rt, (slip.meter(), slip.draw()), numbers);
+    same(rt, meter.condition(), condition);
+    same(rt, scratch, [FILL; 40]);
     slip
 }
 
@@ -53,7 +54,7 @@ fn then_a_full_book<W: Wire>(rt: &impl Abort, meter: &mut Meter<W>, slip: Slip) 
     let mut full = Book::new(&mut places, 1);
     let slip = refused(rt, meter, slip, &mut full, 31, Refusal::Limits);
     let slip = refused(rt, meter, slip, &mut full, 32, Refusal::Full);
-    checks::same(rt, places[0], Entry::EMPTY);
+    same(rt, places[0], Entry::EMPTY);
     slip
 }
 
@@ -72,7 +73,7 @@ fn refusals_in_order<M: Known>(rt: &impl Abort) {
     let mut book = Book::new(&mut places, 0);
     let slip = refused(rt, &mut meter, slip, &mut book, 32, bench::failure(1, 0x02));
     let entry = bench::book(rt, &mut meter, slip, &mut book);
-    checks::same(rt, entry, bench::sound::<M>(1, 1, [0, 0, 0]));
+    same(rt, entry, bench::sound::<M>(1, 1, [0, 0, 0]));
     let _ = other.release();
     let _ = meter.release();
 }
@@ -94,13 +95,13 @@ fn the_largest_book<M: Known>(rt: &impl Abort) {
     let mut places = [Entry::EMPTY; 4096];
     let mut book = Book::new(&mut places, 4095);
     let entry = bench::book(rt, &mut meter, slip, &mut book);
-    checks::same(
+    same(
         rt,
         meter.bill(&book, 1, 100),
         bench::bill(M::ENERGY, 4096, 0),
     );
-    checks::same(rt, places[4095], entry);
-    checks::same(rt, places[4094], Entry::EMPTY);
+    same(rt, places[4095], entry);
+    same(rt, places[4094], Entry::EMPTY);
     let _ = meter.release();
 }
 
@@ -150,7 +151,7 @@ fn laid(rt: &impl Abort, replies: &[&[u8]]) -> [u8; 40] {
 // A meter whose second stretch is one cycle under a set-up, with that stretch's slip.
 fn second_stretch<M: Make>(rt: &impl Abort) -> (bench::Faulty<M>, Slip) {
     let mut meter = bench::faulty::<M>(1, 0);
-    checks::same(rt, meter.set_up(3, 5, 2), Ok(()));
+    same(rt, meter.set_up(3, 5, 2), Ok(()));
     let slip = bench::drawn(rt, &mut meter);
     bench::write_off(rt, &mut meter, slip);
     bench::cycles(&mut meter, 1);
@@ -167,14 +168,14 @@ fn scratch_after<M: Replies>(rt: &impl Abort, outcome: u8) {
     bench::script(rt, &mut meter, &[outcome, 0, outcome]);
     let answer = meter.book(slip, &mut book, &mut scratch);
     let slip = bench::unbooked(rt, answer, bench::failure(outcome, 0x02));
-    checks::same(rt, scratch, [FILL; 40]);
+    same(rt, scratch, [FILL; 40]);
     let answer = meter.book(slip, &mut book, &mut scratch);
     let slip = bench::unbooked(rt, answer, bench::failure(outcome, M::SETTINGS));
-    checks::same(rt, scratch, laid(rt, &[M::FIRST]));
+    same(rt, scratch, laid(rt, &[M::FIRST]));
     let entry = bench::entered(rt, meter.book(slip, &mut book, &mut scratch));
-    checks::same(rt, scratch, laid(rt, &[M::FIRST, M::SECOND]));
-    checks::same(rt, entry, bench::sound::<M>(2, 1, [3, 5, 2]));
-    checks::same(rt, places[0], entry);
+    same(rt, scratch, laid(rt, &[M::FIRST, M::SECOND]));
+    same(rt, entry, bench::sound::<M>(2, 1, [3, 5, 2]));
+    same(rt, places[0], entry);
     let _ = meter.release();
 }
 

@@ -7,6 +7,8 @@ mod bench;
 #[cfg(test)]
 mod bookings;
 #[cfg(test)]
+mod checks;
+#[cfg(test)]
 mod looks;
 #[cfg(test)]
 mod numbers;

@@ -1,5 +1,6 @@
 //! What looks show, when they are refused, and what they leave.
 use crate::bench::{self, Faulty, Known};
+use crate::checks::same;
 use chip::refusal::Refusal;
 use chip::state::Codes;
 use makes::pac193x::Pac193x;
@@ -77,7 +78,7 @@ fn shows<W: Wire>(rt: &impl Abort, meter: &mut Meter<W>, expected: [f64; 4]) {
 
 // A two-way mask put in force by a draw.
 fn in_force<W: Wire>(rt: &impl Abort, meter: &mut Meter<W>, two_way: u8) {
-    checks::same(rt, meter.set_up(0, 0, two_way), Ok(()));
+    same(rt, meter.set_up(0, 0, two_way), Ok(()));
     let slip = bench::drawn(rt, meter);
     bench::write_off(rt, meter, slip);
 }
@@ -95,7 +96,7 @@ fn what_looks_show<M: Seen>(rt: &impl Abort) {
     shows(rt, &mut meter, ONE_WAY);
     in_force(rt, &mut meter, 10);
     shows(rt, &mut meter, MIXED);
-    checks::same(rt, meter.set_up(0, 0, 15), Ok(()));
+    same(rt, meter.set_up(0, 0, 15), Ok(()));
     shows(rt, &mut meter, MIXED);
     in_force(rt, &mut meter, 15);
     shows(rt, &mut meter, TWO_WAY);
@@ -112,31 +113,31 @@ fn what_looks_show_on_both_makes(rt: HostRuntime) {
 fn refused<W: Wire>(rt: &impl Abort, meter: &mut Meter<W>, expected: Refusal) {
     let condition = meter.condition();
     for (channel, quantity) in [(0, 0), (5, 1), (255, 0), (1, 2), (4, 255)] {
-        checks::same(
+        same(
             rt,
             meter.look(channel, quantity).err(),
             Some(Refusal::Limits),
         );
     }
     for (channel, quantity) in [(1, 0), (4, 1)] {
-        checks::same(rt, meter.look(channel, quantity).err(), Some(expected));
+        same(rt, meter.look(channel, quantity).err(), Some(expected));
     }
-    checks::same(rt, meter.condition(), condition);
+    same(rt, meter.condition(), condition);
 }
 
 // None of these looks takes an outcome: the ones that wait make the next draw fail.
 fn refusals_of_looks<M: Known>(rt: &impl Abort) {
     let mut meter = bench::faulty::<M>(1, 0);
     bench::script(rt, &mut meter, &[1]);
-    checks::same(rt, bench::undrawn(rt, &mut meter), bench::failure(1, 0x01));
-    checks::same(rt, meter.condition(), Condition::Unfinished);
+    same(rt, bench::undrawn(rt, &mut meter), bench::failure(1, 0x01));
+    same(rt, meter.condition(), Condition::Unfinished);
     bench::script(rt, &mut meter, M::LOST);
     refused(rt, &mut meter, Refusal::NotReady);
-    checks::same(rt, bench::undrawn(rt, &mut meter), bench::failure(3, 0x00));
-    checks::same(rt, meter.condition(), Condition::InDoubt);
+    same(rt, bench::undrawn(rt, &mut meter), bench::failure(3, 0x00));
+    same(rt, meter.condition(), Condition::InDoubt);
     bench::script(rt, &mut meter, &[1]);
     refused(rt, &mut meter, Refusal::NotReady);
-    checks::same(rt, bench::undrawn(rt, &mut meter), bench::failure(1, 0x21));
+    same(rt, bench::undrawn(rt, &mut meter), bench::failure(1, 0x21));
     let slip = bench::drawn(rt, &mut meter);
     refused(rt, &mut meter, Refusal::SlipOut);
     bench::write_off(rt, &mut meter, slip);
@@ -162,8 +163,8 @@ fn fails<M: Known>(
     }
     bench::script(rt, meter, &[outcome]);
     let answer = meter.look(2, 1).err();
-    checks::same(rt, answer, Some(bench::failure(outcome, address)));
-    checks::same(rt, meter.condition(), Condition::Ready);
+    same(rt, answer, Some(bench::failure(outcome, address)));
+    same(rt, meter.condition(), Condition::Ready);
 }
 
 // Looks, failed or not, leave the meter ready and every sum as it was.
@@ -177,8 +178,8 @@ fn what_looks_leave<M: Known>(rt: &impl Abort) {
     }
     assert!(rt; millivolts(rt, &mut meter, 1) == 30.517578125);
     bench::cycles(&mut meter, 1);
-    checks::same(rt, meter.condition(), Condition::Ready);
-    checks::same(
+    same(rt, meter.condition(), Condition::Ready);
+    same(
         rt,
         bench::next_entry(rt, &mut meter),
         bench::sound::<M>(1, 3, [0, 0, 0]),

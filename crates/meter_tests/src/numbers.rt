@@ -1,5 +1,6 @@
 //! The end of the draw numbers.
 use crate::bench::{self, Known};
+use crate::checks::same;
 use chip::refusal::{Refusal, Who};
 use makes::pac193x::Pac193x;
 use makes::pac194x::Pac194x;
@@ -10,10 +11,10 @@ use std::process::Abort;
 fn no_number_left<M: Known>(rt: &impl Abort) {
     let mut meter = bench::faulty::<M>(1, u32::MAX);
     bench::script(rt, &mut meter, &[1]);
-    checks::same(rt, bench::undrawn(rt, &mut meter), Refusal::NumbersSpent);
-    checks::same(rt, meter.condition(), Condition::Ready);
-    checks::same(rt, meter.last(), u32::MAX);
-    checks::same(
+    same(rt, bench::undrawn(rt, &mut meter), Refusal::NumbersSpent);
+    same(rt, meter.condition(), Condition::Ready);
+    same(rt, meter.last(), u32::MAX);
+    same(
         rt,
         meter.look(1, 0).err(),
         Some(Refusal::NotAcknowledged(Who::Wire, 0x1f)),
@@ -26,13 +27,13 @@ fn one_number_left<M: Known>(rt: &impl Abort, outcomes: &[u8]) {
     let mut meter = bench::faulty::<M>(1, u32::MAX - 1);
     if !outcomes.is_empty() {
         bench::script(rt, &mut meter, outcomes);
-        checks::same(rt, bench::undrawn(rt, &mut meter), Refusal::Broken(0x00));
+        same(rt, bench::undrawn(rt, &mut meter), Refusal::Broken(0x00));
     }
     let slip = bench::drawn(rt, &mut meter);
-    checks::same(rt, slip.draw(), u32::MAX);
-    checks::same(rt, bench::undrawn(rt, &mut meter), Refusal::SlipOut);
+    same(rt, slip.draw(), u32::MAX);
+    same(rt, bench::undrawn(rt, &mut meter), Refusal::SlipOut);
     bench::write_off(rt, &mut meter, slip);
-    checks::same(rt, bench::undrawn(rt, &mut meter), Refusal::NumbersSpent);
+    same(rt, bench::undrawn(rt, &mut meter), Refusal::NumbersSpent);
     let _ = meter.release();
 }
 

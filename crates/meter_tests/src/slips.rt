@@ -1,5 +1,6 @@
 //! Slips offered to a meter that did not hand them out.
 use crate::bench::{self, Faulty, Known};
+use crate::checks::same;
 use book::book::Book;
 use chip::entry::Entry;
 use chip::refusal::Refusal;
@@ -23,12 +24,12 @@ fn refused<W: Wire>(
     let mut book = Book::new(&mut places, 0);
     let answer = meter.book(slip, &mut book, &mut [0; 32]);
     let slip = bench::unbooked(rt, answer, Refusal::WrongSlip);
-    checks::same(rt, (slip.meter(), slip.draw()), expected);
+    same(rt, (slip.meter(), slip.draw()), expected);
     let slip = bench::unwritten(rt, meter.write_off(slip), Refusal::WrongSlip);
-    checks::same(rt, (slip.meter(), slip.draw()), expected);
-    checks::same(rt, meter.condition(), condition);
-    checks::same(rt, meter.write_offs(), 0);
-    checks::same(rt, places[0], Entry::EMPTY);
+    same(rt, (slip.meter(), slip.draw()), expected);
+    same(rt, meter.condition(), condition);
+    same(rt, meter.write_offs(), 0);
+    same(rt, places[0], Entry::EMPTY);
     slip
 }
 
@@ -42,10 +43,10 @@ fn crosswise<M: Known>(rt: &impl Abort, number: u32, last: u32, draw: u32) {
     let slip = refused(rt, &mut second, slip, (1, 1));
     let other = refused(rt, &mut first, other, (number, draw));
     bench::write_off(rt, &mut first, slip);
-    checks::same(rt, first.write_offs(), 1);
+    same(rt, first.write_offs(), 1);
     let mut places = [Entry::EMPTY; 1];
     let entry = bench::book(rt, &mut second, other, &mut Book::new(&mut places, 0));
-    checks::same(rt, entry, bench::sound::<M>(draw, 1, [0, 0, 0]));
+    same(rt, entry, bench::sound::<M>(draw, 1, [0, 0, 0]));
     let _ = first.release();
     let _ = second.release();
 }
@@ -58,7 +59,7 @@ fn with_none_out<M: Known>(rt: &impl Abort, outcomes: &[u8], condition: Conditio
         bench::script(rt, &mut second, outcomes);
         let _ = bench::undrawn(rt, &mut second);
     }
-    checks::same(rt, second.condition(), condition);
+    same(rt, second.condition(), condition);
     let slip = bench::drawn(rt, &mut first);
     let slip = refused(rt, &mut second, slip, (1, 1));
     bench::write_off(rt, &mut first, slip);

@@ -1,5 +1,6 @@
 //! Stretches whose sum just fits its register, and just leaves it.
 use crate::bench::{self, Known};
+use crate::checks::same;
 use book::book::Book;
 use chip::entry::Entry;
 use chip::state::Codes;
@@ -83,13 +84,13 @@ fn a_spoilt_stretch<M: Long>(rt: &impl Abort) {
     largest(&mut meter, M::LEAVES);
     let slip = bench::drawn(rt, &mut meter);
     let entry = bench::book(rt, &mut meter, slip, &mut book);
-    checks::same(rt, entry, entry_of(1, 1, M::LEAVES, M::OVER));
-    checks::same(rt, meter.bill(&book, 1, 100), bench::bill(0, 0, 1));
+    same(rt, entry, entry_of(1, 1, M::LEAVES, M::OVER));
+    same(rt, meter.bill(&book, 1, 100), bench::bill(0, 0, 1));
     largest(&mut meter, M::FITS);
     let slip = bench::drawn(rt, &mut meter);
     let entry = bench::book(rt, &mut meter, slip, &mut book);
-    checks::same(rt, entry, entry_of(2, 0, M::FITS, M::SUM));
-    checks::same(rt, meter.bill(&book, 1, 100), bench::bill(M::WORTH, 1, 1));
+    same(rt, entry, entry_of(2, 0, M::FITS, M::SUM));
+    same(rt, meter.bill(&book, 1, 100), bench::bill(M::WORTH, 1, 1));
     let _ = meter.release();
 }
 

@@ -1,4 +1,5 @@
 //! Every outcome on read, write and send, for requests that the chip takes and for those that it refuses.
+use crate::checks::same;
 use chip::refusal::{Refusal, Who};
 use chip::state::Codes;
 use makes::pac193x::Pac193x;
@@ -20,7 +21,7 @@ pub(crate) const OUTCOMES: [(u8, Outcome); 4] = [
 // A bench whose next transaction meets the outcome of this number.
 fn bench(rt: &impl Abort, number: u8) -> Bench {
     let mut wire: Bench = Scripted::new(Direct::new());
-    checks::same(rt, wire.add(number), Ok(()));
+    same(rt, wire.add(number), Ok(()));
     wire
 }
 
@@ -42,7 +43,7 @@ pub(crate) fn expected(outcome: Outcome, address: u8, taken: bool) -> Result<(),
 // The byte that a register shows first.
 pub(crate) fn shown(rt: &impl Abort, wire: &mut impl Wire, address: u8) -> u8 {
     let mut bytes = [0];
-    checks::same(rt, wire.read(address, &mut bytes), Ok(()));
+    same(rt, wire.read(address, &mut bytes), Ok(()));
     bytes[0]
 }
 
@@ -53,8 +54,8 @@ fn reads(rt: HostRuntime) {
             let mut wire = bench(&rt, number);
             let mut bytes = [0xaa; 2];
             let answer = wire.read(address, &mut bytes);
-            checks::same(&rt, answer, expected(outcome, address, address == 0x21));
-            checks::same(&rt, bytes[0], if answer.is_ok() { 0x00 } else { 0xaa });
+            same(&rt, answer, expected(outcome, address, address == 0x21));
+            same(&rt, bytes[0], if answer.is_ok() { 0x00 } else { 0xaa });
         }
     }
 }
@@ -63,23 +64,23 @@ fn reads(rt: HostRuntime) {
 fn writes(rt: HostRuntime) {
     for (number, outcome) in OUTCOMES {
         let mut wire = bench(&rt, number);
-        checks::same(
+        same(
             &rt,
             wire.write(0x1c, &[0x50]),
             expected(outcome, 0x1c, true),
         );
-        checks::same(
+        same(
             &rt,
             shown(&rt, &mut wire, 0x1c),
             if is_carried(outcome) { 0x50 } else { 0x00 },
         );
         let mut wire = bench(&rt, number);
-        checks::same(
+        same(
             &rt,
             wire.write(0x1c, &[0x50, 0x51]),
             expected(outcome, 0x1c, false),
         );
-        checks::same(&rt, shown(&rt, &mut wire, 0x1c), 0x00);
+        same(&rt, shown(&rt, &mut wire, 0x1c), 0x00);
     }
 }
 
@@ -87,20 +88,20 @@ fn writes(rt: HostRuntime) {
 fn sends(rt: HostRuntime) {
     for (number, outcome) in OUTCOMES {
         let mut wire = bench(&rt, number);
-        checks::same(
+        same(
             &rt,
             wire.write(0x1c, &[0x50]),
             expected(outcome, 0x1c, true),
         );
-        checks::same(&rt, wire.add(number), Ok(()));
-        checks::same(&rt, wire.send(0x00), expected(outcome, 0x00, true));
-        checks::same(
+        same(&rt, wire.add(number), Ok(()));
+        same(&rt, wire.send(0x00), expected(outcome, 0x00, true));
+        same(
             &rt,
             shown(&rt, &mut wire, 0x22),
             if is_carried(outcome) { 0x50 } else { 0x00 },
         );
-        checks::same(&rt, wire.add(number), Ok(()));
-        checks::same(&rt, wire.send(0x1e), expected(outcome, 0x1e, false));
+        same(&rt, wire.add(number), Ok(()));
+        same(&rt, wire.send(0x1e), expected(outcome, 0x1e, false));
     }
 }
 
@@ -108,16 +109,16 @@ fn sends(rt: HostRuntime) {
 #[test]
 fn what_takes_none(rt: HostRuntime) {
     let mut wire = bench(&rt, 1);
-    checks::same(&rt, wire.read(0x1b, &mut []), Err(Refusal::Limits));
-    checks::same(&rt, wire.read(0x21, &mut [0; 65]), Err(Refusal::Limits));
+    same(&rt, wire.read(0x1b, &mut []), Err(Refusal::Limits));
+    same(&rt, wire.read(0x21, &mut [0; 65]), Err(Refusal::Limits));
     wire.cycle([Codes { bus: 4, sense: 4 }; 4]);
-    checks::same(
+    same(
         &rt,
         wire.send(0x00),
         Err(Refusal::NotAcknowledged(Who::Wire, 0x00)),
     );
-    checks::same(&rt, wire.send(0x00), Ok(()));
+    same(&rt, wire.send(0x00), Ok(()));
     let mut count = [0; 3];
-    checks::same(&rt, wire.read(0x02, &mut count), Ok(()));
-    checks::same(&rt, count[2], 1);
+    same(&rt, wire.read(0x02, &mut count), Ok(()));
+    same(&rt, count[2], 1);
 }

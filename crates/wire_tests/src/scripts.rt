@@ -1,4 +1,5 @@
 //! How much a script takes, in which order, and scripts over scripts.
+use crate::checks::same;
 use crate::outcomes::{Bench, OUTCOMES, expected, shown};
 use chip::refusal::{Refusal, Who};
 use makes::pac193x::Pac193x;
@@ -10,21 +11,21 @@ use wire::wire::Wire;
 #[test]
 fn a_full_script(rt: HostRuntime) {
     let mut wire: Bench = Scripted::new(Direct::new());
-    checks::same(&rt, wire.add(4), Err(Refusal::Limits));
+    same(&rt, wire.add(4), Err(Refusal::Limits));
     for _ in 0..64 {
         for (number, _) in OUTCOMES {
-            checks::same(&rt, wire.add(number), Ok(()));
+            same(&rt, wire.add(number), Ok(()));
         }
     }
-    checks::same(&rt, wire.add(0), Err(Refusal::Full));
-    checks::same(&rt, wire.add(4), Err(Refusal::Limits));
+    same(&rt, wire.add(0), Err(Refusal::Full));
+    same(&rt, wire.add(4), Err(Refusal::Limits));
     for _ in 0..64 {
         for (_, outcome) in OUTCOMES {
-            checks::same(&rt, wire.send(0x1f), expected(outcome, 0x1f, true));
+            same(&rt, wire.send(0x1f), expected(outcome, 0x1f, true));
         }
     }
-    checks::same(&rt, wire.add(0), Err(Refusal::Full));
-    checks::same(&rt, wire.send(0x1f), Ok(()));
+    same(&rt, wire.add(0), Err(Refusal::Full));
+    same(&rt, wire.send(0x1f), Ok(()));
 }
 
 // The upper outcome decides first; what it passes on meets the lower one.
@@ -32,11 +33,11 @@ fn a_full_script(rt: HostRuntime) {
 fn a_script_over_a_script(rt: HostRuntime) {
     let mut below: Bench = Scripted::new(Direct::new());
     for outcome in [2, 1, 0] {
-        checks::same(&rt, below.add(outcome), Ok(()));
+        same(&rt, below.add(outcome), Ok(()));
     }
     let mut wire: Scripted<Bench> = Scripted::new(below);
     for outcome in [1, 0, 3, 3] {
-        checks::same(&rt, wire.add(outcome), Ok(()));
+        same(&rt, wire.add(outcome), Ok(()));
     }
     for (byte, answer) in [
         // refused above: the lower script is untouched
@@ -48,7 +49,7 @@ fn a_script_over_a_script(rt: HostRuntime) {
         // dropped above, passed below: broken, and the chip carried it out
         (0x40, Err(Refusal::Broken(0x1c))),
     ] {
-        checks::same(&rt, wire.write(0x1c, &[byte]), answer);
+        same(&rt, wire.write(0x1c, &[byte]), answer);
     }
-    checks::same(&rt, shown(&rt, &mut wire, 0x1c), 0x40);
+    same(&rt, shown(&rt, &mut wire, 0x1c), 0x40);
 }
