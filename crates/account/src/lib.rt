@@ -17,7 +17,8 @@ pub fn every_run_is_accounted()
     ensures { EveryRun }
 {}
 
-/// Over every lawful make: what each refusal leaves, that a draw obeys the set-up, makes at most five transactions, and goes on.
+/// Over every lawful make: what each refusal leaves, that a draw obeys the set-up, makes at most five transactions, and goes on, and that a look
+/// answers the latest code.
 pub fn every_call_keeps_its_word()
     ensures { EveryCall }
 {}
@@ -52,7 +53,8 @@ pub fn figures_are_as_worked()
     ensures { Worked }
 {}
 
-/// The statements speak of something: runs on both makes that end with a sound entry, a spoilt one, a write-off, and a slip got through doubt.
+/// The statements speak of something: runs on both makes that end with a sound entry where nothing has spoilt, a spoilt one, a write-off, and a slip
+/// got through doubt.
 pub fn there_are_such_runs()
     ensures { RunsThereAre }
 {}

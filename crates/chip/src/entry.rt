@@ -1,4 +1,4 @@
-//! One line of a book.
+//! One entry of a book.
 
 /// What an image says of the cycles behind it, under a draw number. The definitions in specs/ speak of this very type.
 #[derive(Clone, Copy, Debug, PartialEq, Eq)]

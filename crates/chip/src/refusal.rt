@@ -1,4 +1,4 @@
-//! The refusals of the whole house. One definition gives each case its number, and one each the values that it names.
+//! The refusals of the whole product. One definition gives each case its number, and one each the values that it names.
 ghost use Rattle.std.specs.Prelude.{◌≡◌};
 ghost use Rattle.chip.specs.declared.refusal.Refusal.TheVariants.{Limits};
 ghost use Rattle.chip.specs.Refusals.{number_of, who_number, refused_by, at_address, at_place};

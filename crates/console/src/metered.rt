@@ -7,14 +7,12 @@ use super::command::DeskCommand;
 use super::reply::{Answer, Reply, State};
 use chip::entry::Entry;
 use chip::refusal::Refusal;
+use crew::post::PLACES;
 use desk::desk::Desk;
 use lines::input::Input;
 use lines::line;
 use wire::scripted::Scripted;
 use wire::wire::Wire;
-
-// How many entries the book has room for.
-const PLACES: usize = 64;
 
 // A desk of the wire, with an empty book, until it is released or there are no more lines; then the wire comes back. All that can
 // fail stands where the desk is lent, so that it always ends, and with it a slip that is still in hand.

@@ -24,7 +24,7 @@ module _ {W : Type 0} (goes : Goes W) where
   NumberRead u a n (Ok x) w = NumberHeard u a n x w
   NumberRead u a n (Err e) w = Transacted goes u (read a n) (denied e) w
 
-  -- a read into the scratch, with a copy of its bytes
+  -- a read of a reply, which is then laid on the scratch
   pub record FetchedBytes (u : W) (address count : ℕ) (scratch scratch' copy' : List ℕ) (w : W) : Type 0 where
     pub went : Transacted goes u (read address count) (heard copy') w
     pub scratched : scratch' ≡ copy' ++ drop (length copy') scratch

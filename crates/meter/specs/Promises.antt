@@ -1,4 +1,4 @@
--- What the calls of a meter promise that take no book.
+-- What a meter's calls promise, beside a booking's own `MadeBookCall`.
 use Rattle.std.specs.Prelude.{◌≡◌, ℕ, ◌<◌, List, length, Ok, Err, Result}
 use Rattle.chip.specs.declared.entry.Entry.{Entry}
 use Rattle.chip.specs.declared.refusal.Refusal.{Refusal}

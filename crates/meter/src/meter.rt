@@ -24,5 +24,6 @@ pub struct Meter<W> {
     condition: Condition,
     // every write-off had a draw of its own, so their count fits
     ghost few: { write_offs + outstanding condition ≤ last },
+    // as a 32-bit number is
     ghost numbers: { last ≤ 4294967295 },
 }

@@ -53,6 +53,7 @@ impl Slip {
         self.draw
     }
 
+    // Its end. Only a booking and a write-off call it.
     pub(crate) fn spend(mut self) {
         self.spent = true;
     }

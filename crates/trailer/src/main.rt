@@ -14,6 +14,7 @@ use std::io::{BufWriter, Read, Write};
 fn main(rt: HostRuntime) -> anyhow::Result<()> {
     let mut text = Vec::new(rt.alloc());
     rt.stdin().take(LIMIT).read_to_end(&mut text)?;
+    // All input is read by now, so nobody waits for one line's reply.
     let mut out = BufWriter::new(rt.alloc(), io::writer(&rt))?;
     run(&mut out, Input::new(text.as_slice()))?;
     out.flush()?;

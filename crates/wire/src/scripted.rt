@@ -82,6 +82,7 @@ impl<W: Wire> Wire for Scripted<W> {
         if !is_readable(length) {
             return Err(Refusal::Limits);
         }
+        // A match of its own, and not `play`: a reply goes straight to the caller's bytes.
         match self.script.take() {
             Outcome::Pass => self.below.read(start, bytes),
             Outcome::Refuse => Err(Refusal::NotAcknowledged(Who::Wire, start)),
