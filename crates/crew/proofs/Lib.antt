@@ -2,4 +2,3 @@ pub mod Histories
 pub mod Prints
 pub mod Readings
 pub mod Runs
-pub mod Words

@@ -6,27 +6,17 @@ use Rattle.chip.specs.declared.refusal.Refusal.{Refusal}
 use Rattle.chip.specs.declared.refusal.Refusal.TheVariants.{Limits, Unreadable}
 use Rattle.chip.specs.declared.state.State.{State}
 use Rattle.crew.specs.declared.kind.Kind.{Kind}
+use Rattle.crew.specs.Asks.{word_of}
 use Rattle.crew.specs.declared.reply.Reply.{Reply}
 use Rattle.crew.specs.declared.reply.Shown.{Shown}
 use Rattle.crew.specs.declared.reply.Shown.TheVariants as shown
-use Rattle.crew.specs.declared.reply.Word.{Word}
-use Rattle.crew.specs.declared.reply.Word.TheVariants as word
+use Rattle.crew.specs.declared.word.Word.TheVariants as word
 use Rattle.crew.specs.declared.request.Request.{Request}
 use Rattle.crew.specs.declared.request.Request.TheVariants.{Cycle, SetUp, Draw, Book, WriteOff, Bill, Fault}
 use Rattle.desk.specs.Promises.{BookMade, CycleCame, DrawMade, OutcomeAdded, SetUpMade, WriteOffMade, chip_below, goes_scripted}
 use Rattle.desk.specs.Standing.{Standing}
 use Rattle.meter.specs.Promises.{MadeBill}
 use Rattle.wire.specs.Wire.{Goes, Passes}
-
--- the word of the lines that ask something
-abbrev pub word_of : Request → Word
-word_of (Cycle ks) = word.Cycle
-word_of (SetUp rate off two_way) = word.SetUp
-word_of Draw = word.Draw
-word_of Book = word.Book
-word_of WriteOff = word.WriteOff
-word_of (Bill ch u) = word.Bill
-word_of (Fault k) = word.Fault
 
 -- what is answered to a line that cannot be read
 abbrev pub unreadable : Reply

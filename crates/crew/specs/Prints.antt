@@ -8,8 +8,8 @@ use Rattle.chip.specs.declared.refusal.Refusal.{Refusal}
 use Rattle.crew.specs.declared.reply.Reply.{Reply}
 use Rattle.crew.specs.declared.reply.Shown.{Shown}
 use Rattle.crew.specs.declared.reply.Shown.TheVariants as shown
-use Rattle.crew.specs.declared.reply.Word.{Word}
-use Rattle.crew.specs.declared.reply.Word.TheVariants as word
+use Rattle.crew.specs.declared.word.Word.{Word}
+use Rattle.crew.specs.declared.word.Word.TheVariants as word
 
 abbrev pub text_of : Word → List ℕ
 text_of word.Line = codes "line"

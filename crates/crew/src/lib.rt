@@ -5,3 +5,4 @@ pub mod kind;
 pub mod post;
 pub mod reply;
 pub mod request;
+pub mod word;

@@ -1,28 +1,13 @@
 //! What is printed for a line.
-ghost use Rattle.std.specs.Prelude.{◌≡◌, Some};
+ghost use Rattle.std.specs.Prelude.{Some};
 ghost use Rattle.std.specs.Fmt.{DisplaysOnOk};
-ghost use Rattle.crew.specs.Obeyed.{word_of};
-ghost use Rattle.crew.specs.Prints.{entry_fields, fields_of, printed, stretch_fields, sum_fields, text_of};
+ghost use Rattle.crew.specs.Prints.{entry_fields, fields_of, printed, stretch_fields, sum_fields};
 
-use super::request::Request;
+use super::word::Word;
 use book::bill::Bill;
 use chip::entry::Entry;
 use chip::refusal::Refusal;
 use std::fmt;
-
-/// The word at the head of a reply: the line's own, or `line` where it cannot be read.
-#[derive(Clone, Copy, Debug, PartialEq, Eq)]
-pub enum Word {
-    Line,
-    Kind,
-    Cycle,
-    SetUp,
-    Draw,
-    Book,
-    WriteOff,
-    Bill,
-    Fault,
-}
 
 /// What a line that was taken shows.
 #[derive(Clone, Copy, Debug, PartialEq, Eq)]
@@ -40,39 +25,6 @@ pub enum Shown {
 pub struct Reply {
     pub word: Word,
     pub outcome: Result<Shown, Refusal>,
-}
-
-impl Word {
-    /// The word of the lines that ask this.
-    pub fn of(request: &Request) -> Word
-        ensures { result ≡ word_of request.now }
-    {
-        match request {
-            Request::Cycle(_) => Word::Cycle,
-            Request::SetUp { .. } => Word::SetUp,
-            Request::Draw => Word::Draw,
-            Request::Book => Word::Book,
-            Request::WriteOff => Word::WriteOff,
-            Request::Bill { .. } => Word::Bill,
-            Request::Fault(_) => Word::Fault,
-        }
-    }
-
-    fn text(self) -> &'static str
-        ensures { result.now ≡ text_of self }
-    {
-        match self {
-            Word::Line => "line",
-            Word::Kind => "kind",
-            Word::Cycle => "cycle",
-            Word::SetUp => "setup",
-            Word::Draw => "draw",
-            Word::Book => "book",
-            Word::WriteOff => "writeoff",
-            Word::Bill => "bill",
-            Word::Fault => "fault",
-        }
-    }
 }
 
 impl Reply {

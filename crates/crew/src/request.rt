@@ -3,6 +3,7 @@ ghost use Rattle.std.specs.Prelude.{◌≡◌};
 ghost use Rattle.crew.specs.Asks.{asked, or_unreadable, request_of};
 ghost use Rattle.lines.specs.Numbers.{items};
 
+use crate::word::Word;
 use chip::refusal::Refusal;
 use chip::state::Codes;
 use lines::line;
@@ -32,26 +33,27 @@ impl TryFrom<&Line<'_>> for Request {
     ghost try_from_gives = { λ line request. request ≡ or_unreadable (request_of line.now.word.text.now (items line.now.fields)) };
 
     fn try_from(line: &Line) -> Result<Request, Refusal> {
-        match (line.word.text, line.fields.as_slice()) {
-            (b"cycle", [v1, s1, v2, s2, v3, s3, v4, s4]) => Ok(Request::Cycle([
+        let word = Word::read(line.word.text).ok_or(Refusal::Unreadable)?;
+        match (word, line.fields.as_slice()) {
+            (Word::Cycle, [v1, s1, v2, s2, v3, s3, v4, s4]) => Ok(Request::Cycle([
                 codes(*v1, *s1),
                 codes(*v2, *s2),
                 codes(*v3, *s3),
                 codes(*v4, *s4),
             ])),
-            (b"setup", [rate, off, two_way]) => Ok(Request::SetUp {
+            (Word::SetUp, [rate, off, two_way]) => Ok(Request::SetUp {
                 rate: *rate,
                 off: *off,
                 two_way: *two_way,
             }),
-            (b"draw", []) => Ok(Request::Draw),
-            (b"book", []) => Ok(Request::Book),
-            (b"writeoff", []) => Ok(Request::WriteOff),
-            (b"bill", [channel, shunt]) => Ok(Request::Bill {
+            (Word::Draw, []) => Ok(Request::Draw),
+            (Word::Book, []) => Ok(Request::Book),
+            (Word::WriteOff, []) => Ok(Request::WriteOff),
+            (Word::Bill, [channel, shunt]) => Ok(Request::Bill {
                 channel: *channel,
                 shunt: *shunt,
             }),
-            (b"fault", [outcome]) => Ok(Request::Fault(*outcome)),
+            (Word::Fault, [outcome]) => Ok(Request::Fault(*outcome)),
             _ => Err(Refusal::Unreadable),
         }
     }

@@ -5,8 +5,9 @@ ghost use Rattle.crew.specs.Runs.{GoesOn, LineAnswered, OnRun, PostEnded, PostOp
 ghost use Rattle.desk.specs.Standing.{standing};
 
 use super::{PLACES, Post, requests};
-use crate::reply::{Reply, Word};
+use crate::reply::Reply;
 use crate::request::Request;
+use crate::word::Word;
 use book::book::Book;
 use chip::entry::Entry;
 use chip::make::Make;
