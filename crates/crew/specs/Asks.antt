@@ -46,8 +46,6 @@ with_fields ns n x = cond (length ns == n) (Some x) None
 
 -- what the fields after a word ask of the meter
 abbrev pub asks : Word → List ℕ → Option Request
-asks word.Line ns = None
-asks word.Kind ns = None
 asks word.Cycle ns = with_fields ns 8 (Cycle (codes_at ns 0 ∷ codes_at ns 1 ∷ codes_at ns 2 ∷ codes_at ns 3 ∷ []))
 asks word.SetUp ns = with_fields ns 3 (SetUp (slice_index ns 0) (slice_index ns 1) (slice_index ns 2))
 asks word.Draw ns = with_fields ns 0 Draw
@@ -55,13 +53,17 @@ asks word.Book ns = with_fields ns 0 Book
 asks word.WriteOff ns = with_fields ns 0 WriteOff
 asks word.Bill ns = with_fields ns 2 (Bill (slice_index ns 0) (slice_index ns 1))
 asks word.Fault ns = with_fields ns 1 (Fault (slice_index ns 0))
+asks x ns = None
+
+-- which chip there is, by the fields after a word
+abbrev pub names : Word → List ℕ → Option Kind
+names word.Kind ns =
+    cond (length ns == 1 && slice_index ns 0 == 193) (Some Pac193x) (cond (length ns == 1 && slice_index ns 0 == 194) (Some Pac194x) None)
+names x ns = None
 
 -- the line that says which chip there is
 abbrev pub kind_of : (word fields : List ℕ) → Option Kind
-kind_of w ns =
-    cond (bytes_eq w (codes "kind") && length ns == 1 && slice_index ns 0 == 193) (Some Pac193x)
-    (cond (bytes_eq w (codes "kind") && length ns == 1 && slice_index ns 0 == 194) (Some Pac194x)
-    None)
+kind_of w ns = option_and_then (λ x. names x ns) (word_in w)
 
 -- the lines that ask something of the meter
 abbrev pub request_of : (word fields : List ℕ) → Option Request

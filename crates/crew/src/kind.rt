@@ -5,6 +5,7 @@ ghost use Rattle.crew.specs.Obeyed.{opened};
 ghost use Rattle.lines.specs.Numbers.{items};
 
 use super::reply::Reply;
+use super::word::Word;
 use chip::refusal::Refusal;
 use lines::line;
 use lines::line::Line;
@@ -22,9 +23,9 @@ impl TryFrom<&Line<'_>> for Kind {
     ghost try_from_gives = { λ line kind. kind ≡ or_unreadable (kind_of line.now.word.text.now (items line.now.fields)) };
 
     fn try_from(line: &Line) -> Result<Kind, Refusal> {
-        match (line.word.text, line.fields.as_slice()) {
-            (b"kind", [193]) => Ok(Kind::Pac193x),
-            (b"kind", [194]) => Ok(Kind::Pac194x),
+        match (Word::read(line.word.text), line.fields.as_slice()) {
+            (Some(Word::Kind), [193]) => Ok(Kind::Pac193x),
+            (Some(Word::Kind), [194]) => Ok(Kind::Pac194x),
             _ => Err(Refusal::Unreadable),
         }
     }
