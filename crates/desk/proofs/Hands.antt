@@ -11,6 +11,8 @@ use Rattle.chip.specs.declared.refusal.Refusal.{Refusal}
 use Rattle.chip.specs.declared.state.State.{State}
 use Rattle.desk.proofs.Slips.{drawn_open, draw_refused, look_leaves_open, refused_booking_leaves_open, set_up_leaves_open, write_off_taken}
 use Rattle.desk.specs.Hand.{fits_in_hand}
+use Rattle.desk.specs.Promises.{SlipWrittenOff, WriteOffMade}
+use Rattle.desk.specs.Standing.{Standing, hand_of}
 use Rattle.meter.specs.declared.meter.Meter.{Meter}
 use Rattle.meter.specs.declared.reading.Reading.{Reading}
 use Rattle.meter.specs.declared.slip.Slip.{Slip}
@@ -90,3 +92,9 @@ module _ (m : Datasheet) {V : Type 0} (chip_of : V → State) (goes : Goes V) wh
 -- the machine's slip, under the meter's number and the draw number that was answered
 pub named_so : (p : Slip) {meter draw : ℕ} → (slip_of p).meter ≡ meter → draw ≡ p.draw → slip_of p ≡ record { meter = meter; draw = draw }
 named_so p e d = let named : ℕ → ℕ → machine.Slip = λ a b. record { meter = a; draw = b } in ap₂ named e (sym d)
+
+module _ (m : Datasheet) {W : Type 0} (chip_of : W → State) (goes : Goes W) where
+  -- what a write-off promises is told of what was in hand
+  pub from_hand : (hand : Option Slip) (p : Slip) (d : Standing W) (r : Result Unit Refusal) (d' : Standing W) → hand ≡ Some p
+      → SlipWrittenOff m chip_of goes (slip_of p) d r d' → WriteOffMade m chip_of goes (hand_of hand) d r d'
+  from_hand hand p d r d' e w = subst (λ h. WriteOffMade m chip_of goes (hand_of h) d r d') (sym e) w

@@ -26,16 +26,12 @@ abbrev pub book_answer : Result Entry Refusal → Answer
 book_answer (Ok e) = entered e
 book_answer (Err e) = refused e
 
-abbrev pub write_off_answer : Result Unit Refusal → Answer
-write_off_answer (Ok u) = given_up
-write_off_answer (Err e) = refused e
-
--- the hand after a draw, which a refused one leaves, and after a booking or a write-off of the slip in it
+-- the hand after a draw, which a refused one leaves, and after a booking of the slip in it
 abbrev pub hand_drawn : (meter : ℕ) → Option Slip → Result ℕ Refusal → Option Slip
 hand_drawn meter hand (Ok n) = Some (record { meter = meter; draw = n })
 hand_drawn meter hand (Err e) = hand
 
-abbrev pub hand_spent : {A : Type 0} → Slip → Result A Refusal → Option Slip
+abbrev pub hand_spent : Slip → Result Entry Refusal → Option Slip
 hand_spent p (Ok x) = None
 hand_spent p (Err e) = Some p
 
@@ -95,9 +91,12 @@ module _ {W : Type 0} where
       BookMade None d r d' = (r ≡ Err NoSlip) × (d' ≡ d)
       BookMade (Some p) d r d' = SlipBooked p d r d'
 
+      -- the slip in hand is written off, which nothing refuses, and the wire stays as it was
       pub record SlipWrittenOff (p : Slip) (d : Standing W) (r : Result Unit Refusal) (d' : Standing W) : Type 0 where
-        pub meter : MadeAlone m (chip_below chip_of) (goes_scripted goes) (write_off p) d.meter d.wire d'.meter d'.wire (write_off_answer r)
-        pub hand : d'.hand ≡ hand_spent p r
+        pub meter : MadeAlone m (chip_below chip_of) (goes_scripted goes) (write_off p) d.meter d.wire d'.meter d'.wire given_up
+        pub taken : r ≡ Ok tt
+        pub wire : d'.wire ≡ d.wire
+        pub hand : d'.hand ≡ None
         pub book : d'.book ≡ d.book
         pub scratch : d'.scratch ≡ d.scratch
 

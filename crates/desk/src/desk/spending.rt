@@ -29,7 +29,7 @@ impl<W: Wire> Desk<'_, W> {
         }
     }
 
-    /// Writes the slip in hand off. Refused, it stays there.
+    /// Writes the slip in hand off, which nothing refuses.
     pub fn write_off(&mut self) -> Result<(), Refusal>
         ensures made { WriteOffMade W.Make.Make.sheet W.Wire.chip W.Wire.goes (hand_of self.old.slip) (standing self.old) result (standing self.new) }
         ensures same { self.new.book.places.ghost_name ≡ self.old.book.places.ghost_name }
@@ -37,15 +37,8 @@ impl<W: Wire> Desk<'_, W> {
         let open = self.slip.take().ok_or(Refusal::NoSlip)?;
         match self.meter.write_off(open) {
             Ok(()) => Ok(()),
-            Err(
-                Unspent {
-                    slip: kept,
-                    refusal,
-                },
-            ) => {
-                self.slip = Some(kept);
-                Err(refusal)
-            }
+            // The slip in hand is the meter's open one.
+            Err(_) => unreachable!(),
         }
     }
 
