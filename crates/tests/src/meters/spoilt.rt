@@ -1,6 +1,6 @@
 //! Stretches whose sum just fits its register, and just leaves it.
-use crate::bench::{self, Known};
 use crate::checks::same;
+use crate::meters::bench::{self, Known};
 use book::book::Book;
 use chip::entry::Entry;
 use chip::state::Codes;

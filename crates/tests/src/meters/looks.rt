@@ -1,6 +1,6 @@
 //! What looks show, when they are refused, and what they leave.
-use crate::bench::{self, Faulty, Known};
 use crate::checks::same;
+use crate::meters::bench::{self, Faulty, Known};
 use chip::refusal::Refusal;
 use chip::state::Codes;
 use makes::pac193x::Pac193x;

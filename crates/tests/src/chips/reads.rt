@@ -1,7 +1,7 @@
 //! Every listed address as a read's start, every unlisted one, and lengths out of limits.
-use crate::bench::Bench;
 use crate::checks::same;
-use crate::known::Known;
+use crate::chips::bench::Bench;
+use crate::chips::known::Known;
 use chip::refusal::Refusal;
 use makes::pac193x::Pac193x;
 use makes::pac194x::Pac194x;

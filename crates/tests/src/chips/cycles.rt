@@ -1,7 +1,7 @@
 //! Cycles under every mask, and registers that run over.
-use crate::bench::{Bench, REFRESH, REFRESH_V};
 use crate::checks::same;
-use crate::known::Known;
+use crate::chips::bench::{Bench, REFRESH, REFRESH_V};
+use crate::chips::known::Known;
 use chip::state::Codes;
 use makes::pac193x::Pac193x;
 use makes::pac194x::Pac194x;

@@ -1,5 +1,5 @@
 //! How a book fills.
-use crate::cases::ONE_WAY;
+use crate::books::cases::ONE_WAY;
 use crate::checks::same;
 use book::book::Book;
 use chip::entry::Entry;

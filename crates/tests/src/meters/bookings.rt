@@ -1,6 +1,6 @@
 //! Bookings that are refused, and what each leaves; the scratch; the largest book.
-use crate::bench::{self, Known};
 use crate::checks::same;
+use crate::meters::bench::{self, Known};
 use book::book::Book;
 use chip::entry::Entry;
 use chip::make::Make;

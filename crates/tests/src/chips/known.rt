@@ -1,6 +1,6 @@
 //! What is known of each make: the registers that it lists, writes that give each something to show, and the bytes that
 //! are shown then.
-use crate::bench::Bench;
+use crate::chips::bench::Bench;
 use chip::make::Make;
 use makes::pac193x::Pac193x;
 use makes::pac194x::Pac194x;

@@ -1,6 +1,6 @@
 //! The end of the draw numbers.
-use crate::bench::{self, Known};
 use crate::checks::same;
+use crate::meters::bench::{self, Known};
 use chip::refusal::{Refusal, Who};
 use makes::pac193x::Pac193x;
 use makes::pac194x::Pac194x;

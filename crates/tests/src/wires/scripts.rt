@@ -1,6 +1,6 @@
 //! How much a script takes, in which order, and scripts over scripts.
 use crate::checks::same;
-use crate::outcomes::{Bench, OUTCOMES, expected, shown};
+use crate::wires::outcomes::{Bench, OUTCOMES, expected, shown};
 use chip::refusal::{Refusal, Who};
 use makes::pac193x::Pac193x;
 use wire::direct::Direct;

@@ -1,5 +1,5 @@
 //! What books are worth.
-use crate::cases::{ONE_WAY, TWO_WAY, bill, bills, with_sum};
+use crate::books::cases::{ONE_WAY, TWO_WAY, bill, bills, with_sum};
 use crate::checks::same;
 use book::book::{Book, MOST_PLACES};
 use chip::chip::Chip;

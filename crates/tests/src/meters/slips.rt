@@ -1,6 +1,6 @@
 //! Slips offered to a meter that did not hand them out.
-use crate::bench::{self, Faulty, Known};
 use crate::checks::same;
+use crate::meters::bench::{self, Faulty, Known};
 use book::book::Book;
 use chip::entry::Entry;
 use chip::refusal::Refusal;

@@ -1,7 +1,7 @@
 //! Writes of every length at every address, and every send. A refused one leaves the chip as it was.
-use crate::bench::Bench;
 use crate::checks::same;
-use crate::known::Known;
+use crate::chips::bench::Bench;
+use crate::chips::known::Known;
 use makes::pac193x::Pac193x;
 use makes::pac194x::Pac194x;
 use std::process::Abort;

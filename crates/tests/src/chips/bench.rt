@@ -1,6 +1,6 @@
 //! A chip on the bench, and the handle by which a check that fails ends the test.
 use crate::checks::same;
-use crate::known::{Known, Writes};
+use crate::chips::known::{Known, Writes};
 use chip::chip::Chip;
 use chip::make::Make;
 use chip::refusal::{Refusal, Who};
