@@ -1,7 +1,4 @@
 //! Both chips.
-mod bench;
-mod cycles;
 mod known;
-mod reads;
 mod refusals;
-mod writes;
+mod requests;

@@ -1,6 +1,7 @@
 //! The end of the draw numbers.
 use crate::checks::same;
-use crate::meters::bench::{self, Known};
+use crate::meters::bench;
+use chip::make::Make;
 use chip::refusal::{Refusal, Who};
 use makes::pac193x::Pac193x;
 use makes::pac194x::Pac194x;
@@ -8,44 +9,41 @@ use meter::condition::Condition;
 use std::process::Abort;
 
 // A draw with all numbers used sends nothing: the outcome that waits meets the look after it.
-fn no_number_left<M: Known>(rt: &impl Abort) {
-    let mut meter = bench::faulty::<M>(1, u32::MAX);
+fn no_number_left<M: Make + Drop>(rt: &impl Abort) {
+    let mut meter = bench::meter::<M>(1, u32::MAX);
     bench::script(rt, &mut meter, &[1]);
-    same(rt, bench::undrawn(rt, &mut meter), Refusal::NumbersSpent);
+    bench::undrawn(rt, &mut meter, Refusal::NumbersSpent);
     same(rt, meter.condition(), Condition::Ready);
     same(rt, meter.last(), u32::MAX);
-    same(
-        rt,
-        meter.look(1, 0).err(),
-        Some(Refusal::NotAcknowledged(Who::Wire, 0x1f)),
-    );
+    let unseen = Refusal::NotAcknowledged(Who::Wire, 0x1f);
+    same(rt, meter.look(1, 0).err(), Some(unseen));
     let _ = meter.release();
 }
 
-// The last number is handed out once, also through doubt; with its slip out, a draw is refused for that.
-fn one_number_left<M: Known>(rt: &impl Abort, outcomes: &[u8]) {
-    let mut meter = bench::faulty::<M>(1, u32::MAX - 1);
-    if !outcomes.is_empty() {
-        bench::script(rt, &mut meter, outcomes);
-        same(rt, bench::undrawn(rt, &mut meter), Refusal::Broken(0x00));
-    }
+// The last number is handed out once, also where these outcomes leave its REFRESH in doubt. With its slip out, draws and looks are refused
+// for that, but a look of what there is not is refused for this first.
+fn one_number_left<M: Make + Drop>(rt: &impl Abort, outcomes: &[u8]) {
+    let mut meter = bench::meter::<M>(1, u32::MAX - 1);
+    bench::script(rt, &mut meter, outcomes);
+    bench::undrawn(rt, &mut meter, Refusal::Broken(0x00));
+    same(rt, meter.look(1, 0).err(), Some(Refusal::NotReady));
     let slip = bench::drawn(rt, &mut meter);
     same(rt, slip.draw(), u32::MAX);
-    same(rt, bench::undrawn(rt, &mut meter), Refusal::SlipOut);
-    bench::write_off(rt, &mut meter, slip);
-    same(rt, bench::undrawn(rt, &mut meter), Refusal::NumbersSpent);
+    bench::undrawn(rt, &mut meter, Refusal::SlipOut);
+    same(rt, meter.look(4, 1).err(), Some(Refusal::SlipOut));
+    same(rt, meter.look(5, 1).err(), Some(Refusal::Limits));
+    bench::spent(rt, meter.write_off(slip));
+    bench::undrawn(rt, &mut meter, Refusal::NumbersSpent);
     let _ = meter.release();
-}
-
-fn the_last_numbers<M: Known>(rt: &impl Abort) {
-    no_number_left::<M>(rt);
-    for outcomes in [[].as_slice(), M::LOST, M::BROKEN] {
-        one_number_left::<M>(rt, outcomes);
-    }
 }
 
 #[test]
 fn the_last_numbers_on_both_makes(rt: HostRuntime) {
-    the_last_numbers::<Pac193x>(&rt);
-    the_last_numbers::<Pac194x>(&rt);
+    no_number_left::<Pac193x>(&rt);
+    no_number_left::<Pac194x>(&rt);
+    // carried out, and broken before the chip
+    for outcome in [3, 2] {
+        one_number_left::<Pac193x>(&rt, &[0, 0, 0, outcome]);
+        one_number_left::<Pac194x>(&rt, &[0, 0, outcome]);
+    }
 }

@@ -1,68 +1,46 @@
 //! Stretches whose sum just fits its register, and just leaves it.
+use crate::books::cases;
 use crate::checks::same;
-use crate::meters::bench::{self, Known};
+use crate::meters::bench;
 use book::book::Book;
 use chip::entry::Entry;
+use chip::make::Make;
 use chip::state::Codes;
 use makes::pac193x::Pac193x;
 use makes::pac194x::Pac194x;
 use meter::meter::Meter;
 use std::process::Abort;
-use wire::wire::Wire;
+use wire::direct::Direct;
 
-trait Long: Known {
-    // how many cycles of the largest codes a sum register holds
-    const FITS: u32;
-
-    // their sum
-    const SUM: i64;
-
-    // what that is worth over 10 milliohms, in whole millijoules
-    const WORTH: i128;
-
-    // one more
-    const LEAVES: u32;
-
-    // what the register shows then
-    const OVER: i64;
-}
-
-// Products of 268,402,689 against 2^48.
-impl Long for Pac193x {
-    const FITS: u32 = 1_048_704;
-
-    const SUM: i64 = 281_474_973_565_056;
-
-    const WORTH: i128 = 327_679_996;
-
-    const LEAVES: u32 = 1_048_705;
-
-    const OVER: i64 = 265_257_089;
-}
-
-// Products of 1,073,659,905 against 2^56.
-impl Long for Pac194x {
-    const FITS: u32 = 67_113_984;
-
-    const SUM: i64 = 72_057_593_685_611_520;
-
-    const WORTH: i128 = 5_898_239_971;
-
-    const LEAVES: u32 = 67_113_985;
-
-    const OVER: i64 = 721_343_489;
-}
-
-// Cycles of the largest codes on channel 1, and nothing on the others.
-fn largest<W: Wire>(meter: &mut Meter<W>, n: u32) {
+// A stretch of this many cycles of the largest codes on channel 1, and nothing on the others, booked.
+fn booked<M: Make + Drop>(
+    rt: &impl Abort,
+    meter: &mut Meter<Direct<M>>,
+    book: &mut Book<'_>,
+    count: u32,
+) -> Entry {
     let most = Codes {
         bus: 65535,
         sense: 65535,
     };
     let idle = Codes { bus: 0, sense: 0 };
-    for _ in 0..n {
+    for _ in 0..count {
         meter.cycle([most, idle, idle, idle]);
     }
+    let slip = bench::drawn(rt, meter);
+    bench::spent(rt, meter.book(slip, book, &mut [0; 32]))
+}
+
+// The entry of a stretch that left a register is marked, and the bill passes over it; the next stretch is sound again.
+fn a_spoilt_stretch<M: Make + Drop>(rt: &impl Abort, spoilt: Entry, sound: Entry, worth: i128) {
+    let mut meter: Meter<Direct<M>> = Meter::new(Direct::new(), 1, 0);
+    let mut places = [Entry::EMPTY; 2];
+    let mut book = Book::new(&mut places, 0);
+    same(rt, booked(rt, &mut meter, &mut book, spoilt.count), spoilt);
+    same(rt, meter.bill(&book, 1, 100), cases::bill(0, 0, 1));
+    same(rt, booked(rt, &mut meter, &mut book, sound.count), sound);
+    same(rt, meter.bill(&book, 1, 100), cases::bill(worth, 1, 1));
+    let _ = meter.release();
 }
 
 // What a stretch on channel 1 comes to.
@@ -76,26 +54,19 @@ fn entry_of(draw: u32, spoilt: u8, count: u32, sum: i64) -> Entry {
     }
 }
 
-// The entry of a stretch that left a register is marked, and the bill passes over it; the next stretch is sound again.
-fn a_spoilt_stretch<M: Long>(rt: &impl Abort) {
-    let mut meter = bench::plain::<M>(1, 0);
-    let mut places = [Entry::EMPTY; 2];
-    let mut book = Book::new(&mut places, 0);
-    largest(&mut meter, M::LEAVES);
-    let slip = bench::drawn(rt, &mut meter);
-    let entry = bench::book(rt, &mut meter, slip, &mut book);
-    same(rt, entry, entry_of(1, 1, M::LEAVES, M::OVER));
-    same(rt, meter.bill(&book, 1, 100), bench::bill(0, 0, 1));
-    largest(&mut meter, M::FITS);
-    let slip = bench::drawn(rt, &mut meter);
-    let entry = bench::book(rt, &mut meter, slip, &mut book);
-    same(rt, entry, entry_of(2, 0, M::FITS, M::SUM));
-    same(rt, meter.bill(&book, 1, 100), bench::bill(M::WORTH, 1, 1));
-    let _ = meter.release();
-}
-
+// Products of 268,402,689 against 2^48, and of 1,073,659,905 against 2^56: in one cycle more than fits, the register begins anew.
 #[test]
 fn a_spoilt_stretch_on_both_makes(rt: HostRuntime) {
-    a_spoilt_stretch::<Pac193x>(&rt);
-    a_spoilt_stretch::<Pac194x>(&rt);
+    a_spoilt_stretch::<Pac193x>(
+        &rt,
+        entry_of(1, 1, 1_048_705, 265_257_089),
+        entry_of(2, 0, 1_048_704, 281_474_973_565_056),
+        327_679_996,
+    );
+    a_spoilt_stretch::<Pac194x>(
+        &rt,
+        entry_of(1, 1, 67_113_985, 721_343_489),
+        entry_of(2, 0, 67_113_984, 72_057_593_685_611_520),
+        5_898_239_971,
+    );
 }
