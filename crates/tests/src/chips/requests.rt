@@ -7,7 +7,6 @@ use chip::refusal::{Refusal, Who};
 use chip::state::Codes;
 use makes::pac193x::Pac193x;
 use makes::pac194x::Pac194x;
-use std::iter;
 use std::process::Abort;
 
 const BUSY: [Codes; 4] = [
@@ -62,8 +61,8 @@ fn busy<M: Make>(rt: &impl Abort, known: Known) -> Chip<M> {
 // A read of these bytes gives what is shown, then FFh.
 fn reads_as<M: Make>(rt: &impl Abort, chip: &Chip<M>, address: u8, bytes: &mut [u8], shown: &[u8]) {
     same(rt, chip.read(address, bytes), Ok(()));
-    for (read, expected) in bytes.iter().zip(shown.iter().chain(iter::repeat(&0xff))) {
-        same(rt, read, expected);
+    for (place, read) in bytes.iter().enumerate() {
+        same(rt, *read, shown.get(place).copied().unwrap_or(0xff));
     }
 }
 

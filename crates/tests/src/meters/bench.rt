@@ -1,5 +1,6 @@
 //! Meters on the bench, and calls whose answer is settled beforehand.
 use crate::checks::same;
+use book::book::Book;
 use chip::entry::Entry;
 use chip::make::Make;
 use chip::refusal::Refusal;
@@ -10,6 +11,9 @@ use std::process::Abort;
 use wire::direct::Direct;
 use wire::scripted::Scripted;
 use wire::wire::Wire;
+
+// The byte that a scratch is filled with beforehand.
+pub(crate) const FILL: u8 = 0xa5;
 
 pub(crate) type Scripting<M> = Meter<Scripted<Direct<M>>>;
 
@@ -71,6 +75,27 @@ pub(crate) fn unspent<T: Drop>(
             slip
         }
     }
+}
+
+// A booking that is refused before it reads, and leaves the scratch, the slip and the meter.
+pub(crate) fn unbooked<W: Wire>(
+    rt: &impl Abort,
+    meter: &mut Meter<W>,
+    slip: Slip,
+    book: &mut Book<'_>,
+    length: usize,
+    expected: Refusal,
+) -> Slip {
+    let mut scratch = [FILL; 32];
+    assert!(rt; length <= 32);
+    let numbers = (slip.meter(), slip.draw());
+    let condition = meter.condition();
+    let answer = meter.book(slip, book, &mut scratch[..length]);
+    let slip = unspent(rt, answer, expected);
+    same(rt, (slip.meter(), slip.draw()), numbers);
+    same(rt, meter.condition(), condition);
+    same(rt, scratch, [FILL; 32]);
+    slip
 }
 
 // The sound entry of one such cycle, under the settings of a fresh chip.

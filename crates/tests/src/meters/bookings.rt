@@ -12,40 +12,16 @@ use meter::slip::Slip;
 use std::process::Abort;
 use wire::wire::Wire;
 
-// The byte that a scratch is filled with beforehand.
-const FILL: u8 = 0xa5;
-
-// A booking that is refused before it reads, and leaves the scratch, the slip and the meter.
-fn refused<W: Wire>(
-    rt: &impl Abort,
-    meter: &mut Meter<W>,
-    slip: Slip,
-    book: &mut Book<'_>,
-    length: usize,
-    expected: Refusal,
-) -> Slip {
-    let mut scratch = [FILL; 32];
-    assert!(rt; length <= 32);
-    let numbers = (slip.meter(), slip.draw());
-    let condition = meter.condition();
-    let answer = meter.book(slip, book, &mut scratch[..length]);
-    let slip = bench::unspent(rt, answer, expected);
-    same(rt, (slip.meter(), slip.draw()), numbers);
-    same(rt, meter.condition(), condition);
-    same(rt, scratch, [FILL; 32]);
-    slip
-}
-
 // What is wrong with a book or a scratch is told before what is wrong with the slip, and that before a full book.
 fn limits_first<W: Wire>(rt: &impl Abort, meter: &mut Meter<W>, wrong: Slip) -> Slip {
     let mut places = [Entry::EMPTY; 1];
     let mut none = Book::new(&mut [], 0);
-    let wrong = refused(rt, meter, wrong, &mut none, 32, Refusal::Limits);
+    let wrong = bench::unbooked(rt, meter, wrong, &mut none, 32, Refusal::Limits);
     let mut overfull = Book::new(&mut places, 2);
-    let wrong = refused(rt, meter, wrong, &mut overfull, 32, Refusal::Limits);
+    let wrong = bench::unbooked(rt, meter, wrong, &mut overfull, 32, Refusal::Limits);
     let mut full = Book::new(&mut places, 1);
-    let wrong = refused(rt, meter, wrong, &mut full, 31, Refusal::Limits);
-    refused(rt, meter, wrong, &mut full, 32, Refusal::WrongSlip)
+    let wrong = bench::unbooked(rt, meter, wrong, &mut full, 31, Refusal::Limits);
+    bench::unbooked(rt, meter, wrong, &mut full, 32, Refusal::WrongSlip)
 }
 
 // None of them used up the outcome that waits: it meets the first read.
@@ -60,10 +36,10 @@ fn refusals_in_order<M: Make + Drop>(rt: &impl Abort, sum: i64) {
     bench::spent(rt, other.write_off(wrong));
     let mut places = [Entry::EMPTY; 1];
     let mut full = Book::new(&mut places, 1);
-    let slip = refused(rt, &mut meter, slip, &mut full, 32, Refusal::Full);
+    let slip = bench::unbooked(rt, &mut meter, slip, &mut full, 32, Refusal::Full);
     let mut book = Book::new(&mut places, 0);
     let unread = Refusal::NotAcknowledged(Who::Wire, 0x02);
-    let slip = refused(rt, &mut meter, slip, &mut book, 32, unread);
+    let slip = bench::unbooked(rt, &mut meter, slip, &mut book, 32, unread);
     let entry = bench::spent(rt, meter.book(slip, &mut book, &mut [0; 32]));
     same(rt, entry, bench::entry_of(1, sum));
     same(rt, places[0], entry);
@@ -79,7 +55,7 @@ fn refusals_in_order_on_both_makes(rt: HostRuntime) {
 
 // Replies, each laid at the start of a scratch over what was there.
 fn laid(rt: &impl Abort, replies: &[&[u8]]) -> [u8; 40] {
-    let mut scratch = [FILL; 40];
+    let mut scratch = [bench::FILL; 40];
     for reply in replies {
         assert!(rt; reply.len() <= 40);
         scratch[..reply.len()].copy_from_slice(reply);
@@ -97,7 +73,7 @@ fn what_is_laid<M: Make + Drop>(rt: &impl Abort, settings: u8, first: &[u8], sec
     let slip = bench::drawn(rt, &mut meter);
     let mut places = [Entry::EMPTY; 1];
     let mut book = Book::new(&mut places, 0);
-    let mut scratch = [FILL; 40];
+    let mut scratch = [bench::FILL; 40];
     bench::script(rt, &mut meter, &[0, 2]);
     let answer = meter.book(slip, &mut book, &mut scratch);
     let slip = bench::unspent(rt, answer, Refusal::Broken(settings));

@@ -38,29 +38,37 @@ fn look<W: Wire>(rt: &impl Abort, meter: &mut Meter<W>, channel: u8) -> (f64, f6
     }
 }
 
-// Every channel's voltages.
-fn shows<W: Wire>(rt: &impl Abort, meter: &mut Meter<W>, volts: [f64; 4], millivolts: [f64; 4]) {
-    for (channel, expected) in (1..=4u8).zip(volts.into_iter().zip(millivolts)) {
-        same(rt, look(rt, meter, channel), expected);
-    }
-}
-
-// A set-up changes what a sense code means only once it is in force: here channels 1 and 3 get two-way.
-fn what_looks_show<M: Make + Drop>(rt: &impl Abort, volts: [f64; 4]) {
-    let one_way = [99.99847412109375, 50.0, 30.517578125, 61.03515625];
-    let mixed = [-0.0030517578125, 50.0, 61.03515625, 61.03515625];
+// What every channel shows, with channels 1 and 3 two-way.
+fn what_looks_show<M: Make + Drop>(rt: &impl Abort, expected: [(f64, f64); 4]) {
     let mut meter = bench::meter::<M>(1, 0);
-    meter.cycle(CODES);
     same(rt, meter.set_up(0, 0, 10), Ok(()));
-    shows(rt, &mut meter, volts, one_way);
     let slip = bench::drawn(rt, &mut meter);
     bench::spent(rt, meter.write_off(slip));
-    shows(rt, &mut meter, volts, mixed);
+    meter.cycle(CODES);
+    for (channel, voltages) in (1..=4u8).zip(expected) {
+        same(rt, look(rt, &mut meter, channel), voltages);
+    }
     let _ = meter.release();
 }
 
 #[test]
 fn what_looks_show_on_both_makes(rt: HostRuntime) {
-    what_looks_show::<Pac193x>(&rt, [16.0, 8.0, 31.99951171875, 0.0]);
-    what_looks_show::<Pac194x>(&rt, [4.5, 2.25, 8.9998626708984375, 0.0]);
+    what_looks_show::<Pac193x>(
+        &rt,
+        [
+            (16.0, -0.0030517578125),
+            (8.0, 50.0),
+            (31.99951171875, 61.03515625),
+            (0.0, 61.03515625),
+        ],
+    );
+    what_looks_show::<Pac194x>(
+        &rt,
+        [
+            (4.5, -0.0030517578125),
+            (2.25, 50.0),
+            (8.9998626708984375, 61.03515625),
+            (0.0, 61.03515625),
+        ],
+    );
 }

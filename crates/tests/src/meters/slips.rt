@@ -13,17 +13,13 @@ use meter::slip::Slip;
 use std::process::Abort;
 use wire::wire::Wire;
 
-// A meter refuses a slip at both calls, gives it back with its own numbers, and stays as it was.
+// A meter refuses a slip at both calls, gives it back, and stays as it was.
 fn refused<W: Wire>(rt: &impl Abort, meter: &mut Meter<W>, slip: Slip) -> Slip {
-    let condition = meter.condition();
-    let numbers = (slip.meter(), slip.draw());
     let mut places = [Entry::EMPTY; 1];
     let mut book = Book::new(&mut places, 0);
-    let answer = meter.book(slip, &mut book, &mut [0; 32]);
-    let slip = bench::unspent(rt, answer, Refusal::WrongSlip);
+    let slip = bench::unbooked(rt, meter, slip, &mut book, 32, Refusal::WrongSlip);
     let slip = bench::unspent(rt, meter.write_off(slip), Refusal::WrongSlip);
-    same(rt, (slip.meter(), slip.draw()), numbers);
-    same(rt, (meter.condition(), meter.write_offs()), (condition, 0));
+    same(rt, meter.write_offs(), 0);
     same(rt, places[0], Entry::EMPTY);
     slip
 }
