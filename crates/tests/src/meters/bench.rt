@@ -98,11 +98,12 @@ pub(crate) fn unbooked<W: Wire>(
     slip
 }
 
-// The sound entry of one such cycle, under the settings of a fresh chip.
-pub(crate) fn entry_of(draw: u32, sum: i64) -> Entry {
+// What a stretch on channel 1 comes to, under the settings of a fresh chip.
+pub(crate) fn entry_of(draw: u32, spoilt: u8, count: u32, sum: i64) -> Entry {
     Entry {
         draw,
-        count: 1,
+        spoilt,
+        count,
         sums: [sum, 0, 0, 0],
         ..Entry::EMPTY
     }

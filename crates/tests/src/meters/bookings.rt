@@ -41,7 +41,7 @@ fn refusals_in_order<M: Make + Drop>(rt: &impl Abort, sum: i64) {
     let unread = Refusal::NotAcknowledged(Who::Wire, 0x02);
     let slip = bench::unbooked(rt, &mut meter, slip, &mut book, 32, unread);
     let entry = bench::spent(rt, meter.book(slip, &mut book, &mut [0; 32]));
-    same(rt, entry, bench::entry_of(1, sum));
+    same(rt, entry, bench::entry_of(1, 0, 1, sum));
     same(rt, places[0], entry);
     let _ = other.release();
     let _ = meter.release();

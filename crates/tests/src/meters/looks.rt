@@ -39,14 +39,14 @@ fn look<W: Wire>(rt: &impl Abort, meter: &mut Meter<W>, channel: u8) -> (f64, f6
 }
 
 // What every channel shows, with channels 1 and 3 two-way.
-fn what_looks_show<M: Make + Drop>(rt: &impl Abort, expected: [(f64, f64); 4]) {
+fn what_looks_show<M: Make + Drop>(rt: &impl Abort, expected: [(u8, f64, f64); 4]) {
     let mut meter = bench::meter::<M>(1, 0);
     same(rt, meter.set_up(0, 0, 10), Ok(()));
     let slip = bench::drawn(rt, &mut meter);
     bench::spent(rt, meter.write_off(slip));
     meter.cycle(CODES);
-    for (channel, voltages) in (1..=4u8).zip(expected) {
-        same(rt, look(rt, &mut meter, channel), voltages);
+    for (channel, volts, millivolts) in expected {
+        same(rt, look(rt, &mut meter, channel), (volts, millivolts));
     }
     let _ = meter.release();
 }
@@ -56,19 +56,19 @@ fn what_looks_show_on_both_makes(rt: HostRuntime) {
     what_looks_show::<Pac193x>(
         &rt,
         [
-            (16.0, -0.0030517578125),
-            (8.0, 50.0),
-            (31.99951171875, 61.03515625),
-            (0.0, 61.03515625),
+            (1, 16.0, -0.0030517578125),
+            (2, 8.0, 50.0),
+            (3, 31.99951171875, 61.03515625),
+            (4, 0.0, 61.03515625),
         ],
     );
     what_looks_show::<Pac194x>(
         &rt,
         [
-            (4.5, -0.0030517578125),
-            (2.25, 50.0),
-            (8.9998626708984375, 61.03515625),
-            (0.0, 61.03515625),
+            (1, 4.5, -0.0030517578125),
+            (2, 2.25, 50.0),
+            (3, 8.9998626708984375, 61.03515625),
+            (4, 0.0, 61.03515625),
         ],
     );
 }

@@ -20,8 +20,8 @@ fn no_number_left<M: Make + Drop>(rt: &impl Abort) {
     let _ = meter.release();
 }
 
-// The last number is handed out once, also where these outcomes leave its REFRESH in doubt. With its slip out, draws and looks are refused
-// for that, but a look of what there is not is refused for this first.
+// The last number is handed out once, though these outcomes leave its REFRESH in doubt. With its slip out, draws and looks are refused for
+// that, but a look of a channel that there is not is outside its limits first.
 fn one_number_left<M: Make + Drop>(rt: &impl Abort, outcomes: &[u8]) {
     let mut meter = bench::meter::<M>(1, u32::MAX - 1);
     bench::script(rt, &mut meter, outcomes);

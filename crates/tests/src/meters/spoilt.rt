@@ -43,30 +43,19 @@ fn a_spoilt_stretch<M: Make + Drop>(rt: &impl Abort, spoilt: Entry, sound: Entry
     let _ = meter.release();
 }
 
-// What a stretch on channel 1 comes to.
-fn entry_of(draw: u32, spoilt: u8, count: u32, sum: i64) -> Entry {
-    Entry {
-        draw,
-        spoilt,
-        count,
-        sums: [sum, 0, 0, 0],
-        ..Entry::EMPTY
-    }
-}
-
 // Products of 268,402,689 against 2^48, and of 1,073,659,905 against 2^56: in one cycle more than fits, the register begins anew.
 #[test]
 fn a_spoilt_stretch_on_both_makes(rt: HostRuntime) {
     a_spoilt_stretch::<Pac193x>(
         &rt,
-        entry_of(1, 1, 1_048_705, 265_257_089),
-        entry_of(2, 0, 1_048_704, 281_474_973_565_056),
+        bench::entry_of(1, 1, 1_048_705, 265_257_089),
+        bench::entry_of(2, 0, 1_048_704, 281_474_973_565_056),
         327_679_996,
     );
     a_spoilt_stretch::<Pac194x>(
         &rt,
-        entry_of(1, 1, 67_113_985, 721_343_489),
-        entry_of(2, 0, 67_113_984, 72_057_593_685_611_520),
+        bench::entry_of(1, 1, 67_113_985, 721_343_489),
+        bench::entry_of(2, 0, 67_113_984, 72_057_593_685_611_520),
         5_898_239_971,
     );
 }
