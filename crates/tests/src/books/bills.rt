@@ -1,66 +1,11 @@
 //! What books are worth.
-use crate::cases::{ONE_WAY, TWO_WAY, bill, bills, with_sum};
-use crate::checks::same;
-use book::book::{Book, MOST_PLACES};
-use chip::chip::Chip;
+use crate::books::cases::{ONE_WAY, TWO_WAY, bill, bills, with_sum};
+use book::book::MOST_PLACES;
 use chip::entry::Entry;
 use chip::make::Make;
-use chip::state::Codes;
 use makes::pac193x::Pac193x;
 use makes::pac194x::Pac194x;
 use std::process::Abort;
-
-// One cycle of v 40000, s 20000 on channel 1, latched, read, booked and billed.
-#[test]
-fn a_cycle_billed(rt: HostRuntime) {
-    let still = Codes { bus: 0, sense: 0 };
-    let busy = Codes {
-        bus: 40000,
-        sense: 20000,
-    };
-    let mut chip: Chip<Pac193x> = Chip::new();
-    chip.cycle([busy, still, still, still]);
-    same(&rt, chip.send(0x00), Ok(()));
-    let mut replies = [0; 30];
-    same(&rt, chip.read(0x02, &mut replies[..27]), Ok(()));
-    same(&rt, chip.read(0x24, &mut replies[27..]), Ok(()));
-    let mut places = [ONE_WAY; 2];
-    let mut book = Book::new(&mut places, 0);
-    same(&rt, book.put(Pac193x::entry_in(&replies, 1)), Ok(()));
-    same(&rt, book.bill::<Pac193x>(1, 100), bill(58, 1, 0));
-    same(&rt, book.bill::<Pac193x>(2, 100), bill(0, 1, 0));
-    same(&rt, places[0].sums, [50_000_000, 0, 0, 0]);
-}
-
-// Each weight, one-way and two-way, over 0.7 milliohm.
-fn weights<M: Make>(rt: &impl Abort, energies: [(u8, i128, i128); 4]) {
-    for (rate, one_way, two_way) in energies {
-        let mut entry = [Entry {
-            rate,
-            ..with_sum(ONE_WAY, 1_000_003)
-        }];
-        bills::<M>(rt, &mut entry, 1, 7, bill(one_way, 1, 0));
-        let mut entry = [Entry {
-            rate,
-            ..with_sum(TWO_WAY, -1_000_003)
-        }];
-        bills::<M>(rt, &mut entry, 4, 7, bill(two_way, 1, 0));
-    }
-}
-
-#[test]
-fn weights_of_both_makes(rt: HostRuntime) {
-    weights::<Pac193x>(
-        &rt,
-        [
-            (0, 16, -34),
-            (1, 66, -134),
-            (2, 266, -533),
-            (3, 2128, -4258),
-        ],
-    );
-    weights::<Pac194x>(&rt, [(0, 1, -3), (1, 4, -10), (2, 18, -38), (3, 149, -300)]);
-}
 
 // The masks and sums of each channel count for that channel alone, an off channel's too.
 #[test]
@@ -99,32 +44,6 @@ fn each_channel(rt: HostRuntime) {
         bills::<Pac193x>(&rt, &mut entries, channel, 10, bill(on_193x, 4, 0));
         bills::<Pac194x>(&rt, &mut entries, channel, 10, bill(on_194x, 4, 0));
     }
-}
-
-// One step of less than a millijoule below zero, then the same thrice, and two that make one millijoule together only.
-#[test]
-fn rounded_down_once(rt: HostRuntime) {
-    let below = with_sum(TWO_WAY, -1);
-    let part = with_sum(ONE_WAY, 5154);
-    bills::<Pac193x>(&rt, &mut [below], 1, 1, bill(-1, 1, 0));
-    bills::<Pac193x>(&rt, &mut [below; 3], 1, 1, bill(-1, 3, 0));
-    bills::<Pac193x>(&rt, &mut [part], 1, 1, bill(0, 1, 0));
-    bills::<Pac193x>(&rt, &mut [part; 2], 1, 1, bill(1, 2, 0));
-}
-
-// Nothing booked, and nothing sound.
-#[test]
-fn nothing_to_bill(rt: HostRuntime) {
-    let spoilt = Entry {
-        spoilt: 1,
-        ..with_sum(ONE_WAY, 50_000_000)
-    };
-    let mut places = [spoilt; 2];
-    let book = Book::new(&mut places, 0);
-    same(&rt, book.bill::<Pac193x>(1, 100), bill(0, 0, 0));
-    bills::<Pac193x>(&rt, &mut [spoilt; 3], 1, 100, bill(0, 0, 3));
-    let sound = with_sum(ONE_WAY, 50_000_000);
-    bills::<Pac193x>(&rt, &mut [spoilt, sound, spoilt], 1, 100, bill(58, 1, 2));
 }
 
 // The example of docs/BOOK.md.

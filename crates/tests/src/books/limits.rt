@@ -1,5 +1,5 @@
 //! Books, channels and shunts outside their limits.
-use crate::cases::{ONE_WAY, bill};
+use crate::books::cases::{ONE_WAY, bill};
 use crate::checks::same;
 use book::book::Book;
 use chip::entry::Entry;

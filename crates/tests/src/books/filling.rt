@@ -1,5 +1,5 @@
 //! How a book fills.
-use crate::cases::ONE_WAY;
+use crate::books::cases::ONE_WAY;
 use crate::checks::same;
 use book::book::Book;
 use chip::entry::Entry;
@@ -21,7 +21,7 @@ fn fills_and_is_full(rt: HostRuntime) {
     same(&rt, book.put(drawn(7)), Err(Refusal::Full));
     same(&rt, book.put(drawn(8)), Err(Refusal::Full));
     same(&rt, book.within_limits(), true);
-    same(&rt, places.map(|entry| entry.draw), [9, 5, 6]);
+    same(&rt, places, [drawn(9), drawn(5), drawn(6)]);
 }
 
 // More filled than there are places: full, and outside its limits.
@@ -32,5 +32,5 @@ fn overfilled(rt: HostRuntime) {
     same(&rt, book.is_full(), true);
     same(&rt, book.put(drawn(5)), Err(Refusal::Full));
     same(&rt, book.within_limits(), false);
-    same(&rt, places.map(|entry| entry.draw), [9, 9]);
+    same(&rt, places, [drawn(9); 2]);
 }

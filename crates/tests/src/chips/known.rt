@@ -1,10 +1,5 @@
 //! What is known of each make: the registers that it lists, writes that give each something to show, and the bytes that
 //! are shown then.
-use crate::bench::Bench;
-use chip::make::Make;
-use makes::pac193x::Pac193x;
-use makes::pac194x::Pac194x;
-use std::process::Abort;
 
 // A row of a register list: the first address, the last, and how many bytes each register has.
 pub(crate) type Listed = (u8, u8, usize);
@@ -12,36 +7,19 @@ pub(crate) type Listed = (u8, u8, usize);
 // Bytes for addresses.
 pub(crate) type Writes = &'static [(u8, &'static [u8])];
 
-pub(crate) trait Known: Make + Drop {
-    const LISTED: &'static [Listed];
-
+#[derive(Clone, Copy)]
+pub(crate) struct Known {
+    pub(crate) listed: &'static [Listed],
     // settings for four busy cycles, for one more, and those that are then pending
-    const SETTINGS: [Writes; 3];
-
+    pub(crate) settings: [Writes; 3],
     // what all that is listed shows then
-    const SHOWN: &'static [u8];
-
+    pub(crate) shown: &'static [u8],
     // which addresses take a write, and how many bytes
-    const TAKEN: [(u8, usize); 3];
-
-    // how many bytes the count has
-    const COUNT_WIDTH: usize;
-
-    // how many bytes a sum has
-    const SUM_WIDTH: usize;
-
-    // what a sum shows after one cycle of v 4, s 65532, on a one-way channel
-    const ONE_WAY: u64;
-
-    // and on a two-way one
-    const TWO_WAY: u64;
-
-    // Writes which channels are off and which are two-way: bit 3 is channel 1.
-    fn write_masks<R: Abort>(bench: &mut Bench<Self, R>, off: u8, two_way: u8);
+    pub(crate) taken: [(u8, usize); 3],
 }
 
-impl Known for Pac193x {
-    const LISTED: &'static [Listed] = &[
+pub(crate) const PAC193X: Known = Known {
+    listed: &[
         (0x01, 0x01, 1),
         (0x02, 0x02, 3),
         (0x03, 0x06, 6),
@@ -49,41 +27,25 @@ impl Known for Pac193x {
         (0x17, 0x1a, 4),
         (0x1c, 0x1d, 1),
         (0x21, 0x26, 1),
-    ];
-
-    const SETTINGS: [Writes; 3] = [
+    ],
+    settings: [
         &[(0x01, &[0xf7]), (0x1c, &[0x12]), (0x1d, &[0x4b])],
         &[(0x01, &[0x9a]), (0x1c, &[0x80]), (0x1d, &[0x13])],
         &[(0x01, &[0x41]), (0x1c, &[0x2c]), (0x1d, &[0xf0])],
-    ];
-
-    const SHOWN: &'static [u8] = &[
+    ],
+    shown: &[
         0x41, 0x00, 0x00, 0x04, 0x00, 0x00, 0x0b, 0xeb, 0xc2, 0x00, 0xff, 0xff, 0xff, 0x99, 0xc4,
         0x20, 0x00, 0x00, 0x1a, 0xd3, 0x5e, 0xe0, 0x00, 0x00, 0x00, 0x00, 0x00, 0x00, 0x9c, 0x40,
         0xc3, 0x51, 0xea, 0x63, 0x00, 0x00, 0x4e, 0x20, 0xfd, 0xe8, 0x75, 0x37, 0x00, 0x00, 0x00,
         0x00, 0x00, 0x00, 0x00, 0x00, 0x00, 0x00, 0x00, 0x00, 0x00, 0x00, 0x00, 0x00, 0x00, 0x00,
         0x2f, 0xaf, 0x08, 0x00, 0xfe, 0x67, 0x10, 0x80, 0x6b, 0x4d, 0x7b, 0x80, 0x00, 0x00, 0x00,
         0x00, 0x2c, 0xf0, 0x9a, 0x80, 0x13, 0xf6, 0x12, 0x4b,
-    ];
+    ],
+    taken: [(0x01, 1), (0x1c, 1), (0x1d, 1)],
+};
 
-    const TAKEN: [(u8, usize); 3] = [(0x01, 1), (0x1c, 1), (0x1d, 1)];
-
-    const COUNT_WIDTH: usize = 3;
-
-    const SUM_WIDTH: usize = 6;
-
-    const ONE_WAY: u64 = 16383;
-
-    const TWO_WAY: u64 = 0xffff_ffff_ffff;
-
-    fn write_masks<R: Abort>(bench: &mut Bench<Self, R>, off: u8, two_way: u8) {
-        bench.write(0x1c, &[off << 4]);
-        bench.write(0x1d, &[two_way << 4]);
-    }
-}
-
-impl Known for Pac194x {
-    const LISTED: &'static [Listed] = &[
+pub(crate) const PAC194X: Known = Known {
+    listed: &[
         (0x01, 0x01, 2),
         (0x02, 0x02, 4),
         (0x03, 0x06, 7),
@@ -94,9 +56,8 @@ impl Known for Pac194x {
         (0x21, 0x24, 2),
         (0x25, 0x25, 1),
         (0x26, 0x26, 3),
-    ];
-
-    const SETTINGS: [Writes; 3] = [
+    ],
+    settings: [
         &[
             (0x01, &[0x7a, 0x15]),
             (0x1c, &[0xa5]),
@@ -108,9 +69,8 @@ impl Known for Pac194x {
             (0x1c, &[0x3c]),
             (0x1d, &[0x55, 0xaa]),
         ],
-    ];
-
-    const SHOWN: &'static [u8] = &[
+    ],
+    shown: &[
         0x43, 0x21, 0x00, 0x00, 0x00, 0x04, 0x00, 0x00, 0x00, 0x2f, 0xaf, 0x08, 0x00, 0xff, 0xff,
         0xff, 0xfe, 0x67, 0x10, 0x80, 0x00, 0x00, 0x00, 0x6b, 0x50, 0x3a, 0xa0, 0x00, 0x00, 0x00,
         0x00, 0x00, 0x00, 0x00, 0x9c, 0x40, 0xc3, 0x51, 0xea, 0x63, 0x00, 0x00, 0x4e, 0x20, 0xfd,
@@ -118,25 +78,6 @@ impl Known for Pac194x {
         0x00, 0x00, 0x00, 0x00, 0x00, 0x00, 0x2f, 0xaf, 0x08, 0x00, 0xfe, 0x67, 0x10, 0x80, 0x6b,
         0x50, 0x3a, 0xa0, 0x00, 0x00, 0x00, 0x00, 0x3c, 0x55, 0xaa, 0x5c, 0x8f, 0x42, 0x01, 0x7a,
         0x15, 0x1b, 0x77, 0x00, 0x00, 0x00, 0x00,
-    ];
-
-    const TAKEN: [(u8, usize); 3] = [(0x01, 2), (0x1c, 1), (0x1d, 2)];
-
-    const COUNT_WIDTH: usize = 4;
-
-    const SUM_WIDTH: usize = 7;
-
-    const ONE_WAY: u64 = 65532;
-
-    const TWO_WAY: u64 = 0xff_ffff_ffff_fffc;
-
-    fn write_masks<R: Abort>(bench: &mut Bench<Self, R>, off: u8, two_way: u8) {
-        bench.write(0x01, &[0x40, off << 4]);
-        bench.write(0x1d, &[polarity(two_way), 0]);
-    }
-}
-
-// Two bits a channel, 01 where it is two-way.
-fn polarity(two_way: u8) -> u8 {
-    (two_way & 8) << 3 | (two_way & 4) << 2 | (two_way & 2) << 1 | two_way & 1
-}
+    ],
+    taken: [(0x01, 2), (0x1c, 1), (0x1d, 2)],
+};

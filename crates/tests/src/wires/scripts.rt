@@ -1,32 +1,11 @@
-//! How much a script takes, in which order, and scripts over scripts.
+//! Scripts over scripts.
 use crate::checks::same;
-use crate::outcomes::{Bench, OUTCOMES, expected, shown};
+use crate::wires::outcomes::{Bench, shown};
 use chip::refusal::{Refusal, Who};
 use makes::pac193x::Pac193x;
 use wire::direct::Direct;
 use wire::scripted::Scripted;
 use wire::wire::Wire;
-
-// 256 additions over its life: the next is refused, also after outcomes were taken, and a bad number comes first.
-#[test]
-fn a_full_script(rt: HostRuntime) {
-    let mut wire: Bench = Scripted::new(Direct::new());
-    same(&rt, wire.add(4), Err(Refusal::Limits));
-    for _ in 0..64 {
-        for (number, _) in OUTCOMES {
-            same(&rt, wire.add(number), Ok(()));
-        }
-    }
-    same(&rt, wire.add(0), Err(Refusal::Full));
-    same(&rt, wire.add(4), Err(Refusal::Limits));
-    for _ in 0..64 {
-        for (_, outcome) in OUTCOMES {
-            same(&rt, wire.send(0x1f), expected(outcome, 0x1f, true));
-        }
-    }
-    same(&rt, wire.add(0), Err(Refusal::Full));
-    same(&rt, wire.send(0x1f), Ok(()));
-}
 
 // The upper outcome decides first; what it passes on meets the lower one.
 #[test]

@@ -1,5 +1,5 @@
 //! Entries beyond the ranges of their make, and those just within.
-use crate::cases::{ONE_WAY, TWO_WAY, bill, with_sum};
+use crate::books::cases::{ONE_WAY, TWO_WAY, bill, with_sum};
 use crate::checks::same;
 use book::book::Book;
 use chip::entry::Entry;

@@ -1,7 +1,6 @@
-//! Every outcome on read, write and send, for requests that the chip takes and for those that it refuses.
+//! Every outcome on reads, writes and sends, for requests that the chip takes and for those that it refuses.
 use crate::checks::same;
 use chip::refusal::{Refusal, Who};
-use chip::state::Codes;
 use makes::pac193x::Pac193x;
 use std::process::Abort;
 use wire::direct::Direct;
@@ -11,7 +10,7 @@ use wire::wire::Wire;
 
 pub(crate) type Bench = Scripted<Direct<Pac193x>>;
 
-pub(crate) const OUTCOMES: [(u8, Outcome); 4] = [
+const OUTCOMES: [(u8, Outcome); 4] = [
     (0, Outcome::Pass),
     (1, Outcome::Refuse),
     (2, Outcome::Break),
@@ -25,13 +24,8 @@ fn bench(rt: &impl Abort, number: u8) -> Bench {
     wire
 }
 
-// Whether a request reaches the chip.
-fn is_carried(outcome: Outcome) -> bool {
-    matches!(outcome, Outcome::Pass | Outcome::DropReply)
-}
-
 // What an outcome makes of a request at an address, by whether the chip takes it.
-pub(crate) fn expected(outcome: Outcome, address: u8, taken: bool) -> Result<(), Refusal> {
+fn expected(outcome: Outcome, address: u8, taken: bool) -> Result<(), Refusal> {
     match outcome {
         Outcome::Pass if taken => Ok(()),
         Outcome::Pass => Err(Refusal::NotAcknowledged(Who::Chip, address)),
@@ -60,65 +54,19 @@ fn reads(rt: HostRuntime) {
     }
 }
 
+// A write, a send that passes its byte on to the image, and a send that the chip refuses.
 #[test]
-fn writes(rt: HostRuntime) {
+fn writes_and_sends(rt: HostRuntime) {
     for (number, outcome) in OUTCOMES {
         let mut wire = bench(&rt, number);
-        same(
-            &rt,
-            wire.write(0x1c, &[0x50]),
-            expected(outcome, 0x1c, true),
-        );
-        same(
-            &rt,
-            shown(&rt, &mut wire, 0x1c),
-            if is_carried(outcome) { 0x50 } else { 0x00 },
-        );
-        let mut wire = bench(&rt, number);
-        same(
-            &rt,
-            wire.write(0x1c, &[0x50, 0x51]),
-            expected(outcome, 0x1c, false),
-        );
-        same(&rt, shown(&rt, &mut wire, 0x1c), 0x00);
-    }
-}
-
-#[test]
-fn sends(rt: HostRuntime) {
-    for (number, outcome) in OUTCOMES {
-        let mut wire = bench(&rt, number);
-        same(
-            &rt,
-            wire.write(0x1c, &[0x50]),
-            expected(outcome, 0x1c, true),
-        );
+        let answer = wire.write(0x1c, &[0x50]);
+        same(&rt, answer, expected(outcome, 0x1c, true));
         same(&rt, wire.add(number), Ok(()));
         same(&rt, wire.send(0x00), expected(outcome, 0x00, true));
-        same(
-            &rt,
-            shown(&rt, &mut wire, 0x22),
-            if is_carried(outcome) { 0x50 } else { 0x00 },
-        );
+        let carried = matches!(outcome, Outcome::Pass | Outcome::DropReply);
+        let seen = shown(&rt, &mut wire, 0x22);
+        same(&rt, seen, if carried { 0x50 } else { 0x00 });
         same(&rt, wire.add(number), Ok(()));
         same(&rt, wire.send(0x1e), expected(outcome, 0x1e, false));
     }
-}
-
-// A read of bad length and a cycle take no outcome.
-#[test]
-fn what_takes_none(rt: HostRuntime) {
-    let mut wire = bench(&rt, 1);
-    same(&rt, wire.read(0x1b, &mut []), Err(Refusal::Limits));
-    same(&rt, wire.read(0x21, &mut [0; 65]), Err(Refusal::Limits));
-    wire.cycle([Codes { bus: 4, sense: 4 }; 4]);
-    same(
-        &rt,
-        wire.send(0x00),
-        Err(Refusal::NotAcknowledged(Who::Wire, 0x00)),
-    );
-    same(&rt, wire.send(0x00), Ok(()));
-    let mut count = [0; 3];
-    same(&rt, wire.read(0x02, &mut count), Ok(()));
-    same(&rt, count[2], 1);
 }

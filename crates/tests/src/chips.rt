@@ -1,0 +1,5 @@
+//! Both chips.
+mod cycles;
+mod known;
+mod refusals;
+mod requests;

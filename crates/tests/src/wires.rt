@@ -1,0 +1,3 @@
+//! The wires.
+mod outcomes;
+mod scripts;
