@@ -21,12 +21,6 @@ use wire::wire::Wire;
 // More entries than a run makes.
 const PLACES: usize = 8;
 
-const NO_BILL: Bill = Bill {
-    energy: 0,
-    billed: 0,
-    spoilt: 0,
-};
-
 // Each outcome of a script and of a doubt before it can refuse a call once.
 const TRIES: usize = LENGTH + 2;
 
@@ -97,9 +91,8 @@ pub(crate) fn run<C: Known>(scenario: Scenario, script: Script) -> anyhow::Resul
 fn running<W: Wire>(wire: &mut W, kind: Kind) -> anyhow::Result<u64> {
     let mut sum = [0; 8];
     let register = sum.get_mut(kind.sum_start..).context("no such register")?;
-    wire.send(REFRESH_V)
-        .and_then(|()| wire.read(FIRST_SUM, register))
-        .map_err(refused)?;
+    wire.send(REFRESH_V).map_err(refused)?;
+    wire.read(FIRST_SUM, register).map_err(refused)?;
     Ok(u64::from_be_bytes(sum))
 }
 
@@ -248,16 +241,16 @@ impl<W: Wire> Bench<'_, W> {
 
     // What is running, the chip tells later.
     fn closing(&self) -> anyhow::Result<Closing> {
-        let mut bills = [NO_BILL; 4];
-        for (channel, bill) in (1..=4).zip(&mut bills) {
-            *bill = self.desk.bill(channel, 1).map_err(refused)?;
-        }
         Ok(Closing {
             last: self.desk.meter().last(),
             write_offs: self.desk.meter().write_offs(),
             running: 0,
-            bills,
+            bills: [self.bill(1)?, self.bill(2)?, self.bill(3)?, self.bill(4)?],
         })
+    }
+
+    fn bill(&self, channel: u8) -> anyhow::Result<Bill> {
+        self.desk.bill(channel, 1).map_err(refused)
     }
 }
 

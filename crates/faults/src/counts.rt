@@ -18,9 +18,11 @@ pub(crate) const BOOKINGS: [usize; 2] = [7, 8];
 
 pub(crate) const LOOKS: [usize; 2] = [9, 10];
 
+const COLUMNS: usize = 11;
+
 // A line of the table.
 #[derive(Clone, Copy, Default)]
-pub(crate) struct Counts([u32; 11]);
+pub(crate) struct Counts([u32; COLUMNS]);
 
 impl Counts {
     pub(crate) fn count(&mut self, column: usize) {
@@ -50,8 +52,8 @@ impl Counts {
     }
 
     pub(crate) fn add(&mut self, other: Counts) {
-        for (count, more) in self.0.iter_mut().zip(other.0) {
-            *count = count.saturating_add(more);
+        for column in 0..COLUMNS {
+            self.0[column] = self.0[column].saturating_add(other.0[column]);
         }
     }
 }

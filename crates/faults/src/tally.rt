@@ -104,10 +104,9 @@ impl Tally {
         self.draw = entry.draw;
         self.end = stretch.to;
         self.entries = self.entries.saturating_add(1);
-        let sums = entry.sums.iter().enumerate();
-        for (weighed, (channel, sum)) in self.weighed.iter_mut().zip(sums) {
-            let worth = sum.saturating_mul(settings.weight(channel));
-            *weighed = weighed.saturating_add(worth);
+        for channel in 0..4 {
+            let worth = entry.sums[channel].saturating_mul(settings.weight(channel));
+            self.weighed[channel] = self.weighed[channel].saturating_add(worth);
         }
     }
 
