@@ -16,7 +16,7 @@ pub(crate) enum Step {
     Book,
     // the slip that is out is given up, however it came
     WriteOff,
-    // what was in force in the cycle before it
+    // a look until it is done, and the settings that are in force
     Look(Settings),
     // a look after the first try of a draw, which the meter itself refuses
     RefusedLook,
