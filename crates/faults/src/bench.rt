@@ -1,13 +1,14 @@
-//! A meter whose wire fails as a script says, with the log of its run. Each call comes after a cycle, when it is tried again too.
+//! A meter whose wire fails as a script says, with the log of its run. A cycle comes before each step, and before each further try of it.
 
-use super::counts::{Counts, Refused};
+use super::counts::{BOOKINGS, Counts, DRAWS, LOOKS, OUTCOMES, RUNS};
+use super::cycle::{Cycle, MOST_CYCLES};
 use super::kind::{Kind, Known};
 use super::log::Log;
-use super::scenario::Scenario;
+use super::scenario::{Scenario, Step};
 use super::script::{LENGTH, Script};
 use super::settings::Settings;
-use super::tally::{self, Closing};
-use anyhow::{anyhow, bail, ensure};
+use super::tally::{Closing, Tally};
+use anyhow::{Context, anyhow, bail, ensure};
 use book::bill::Bill;
 use chip::entry::Entry;
 use chip::refusal::{Refusal, Who};
@@ -19,12 +20,6 @@ use wire::wire::Wire;
 
 // More entries than a run makes.
 const PLACES: usize = 8;
-
-const NO_BILL: Bill = Bill {
-    energy: 0,
-    billed: 0,
-    spoilt: 0,
-};
 
 // Each outcome of a script and of a doubt before it can refuse a call once.
 const TRIES: usize = LENGTH + 2;
@@ -44,14 +39,14 @@ const REFRESH_V: u8 = 0x1f;
 // Where channel 1's sum is read.
 const FIRST_SUM: u8 = 0x03;
 
-pub(crate) struct Bench<'a, W> {
+struct Bench<'a, W> {
     desk: Desk<'a, W>,
     script: Script,
     log: Log,
+    tally: Tally,
     counts: Counts,
     // the entries that its bookings answered
     answered: [Entry; PLACES],
-    entries: usize,
 }
 
 // A run of a scenario on a fresh chip.
@@ -61,29 +56,30 @@ pub(crate) fn run<C: Known>(scenario: Scenario, script: Script) -> anyhow::Resul
         desk: Desk::new(Scripted::new(Direct::<C>::new()), &mut places),
         script,
         log: Log::new(C::KIND),
-        counts: Counts::of_run(),
+        tally: Tally::default(),
+        counts: Counts::default(),
         answered: [Entry::EMPTY; PLACES],
-        entries: 0,
     };
-    let played = play(&mut bench, scenario);
+    let played = bench.play(scenario);
     let Bench {
         desk,
         script: _,
         log,
+        tally,
         counts,
         answered,
-        entries,
     } = bench;
     let (mut wire, _book) = desk.end();
     let closing = Closing {
-        running: running(&mut wire, C::KIND).map_err(refused)?,
+        running: running(&mut wire, C::KIND)?,
         ..played?
     };
+    let expected = tally.closing(&log);
+    ensure!(closing == expected, "{closing:?} is to be {expected:?}");
     ensure!(
         places == answered,
         "the book has other entries than were answered"
     );
-    tally::check(&log, places.get(..entries).unwrap_or(&places), closing)?;
     ensure!(
         counts.all_struck(),
         "a failure refused no call, or more than one"
@@ -92,30 +88,12 @@ pub(crate) fn run<C: Known>(scenario: Scenario, script: Script) -> anyhow::Resul
 }
 
 // What channel 1's sum register has, by the chip itself.
-fn running<W: Wire>(wire: &mut W, kind: Kind) -> Result<u64, Refusal> {
-    wire.send(REFRESH_V)?;
+fn running<W: Wire>(wire: &mut W, kind: Kind) -> anyhow::Result<u64> {
     let mut sum = [0; 8];
-    wire.read(FIRST_SUM, &mut sum[8 - kind.sum_bytes()..])?;
+    let register = sum.get_mut(kind.sum_start..).context("no such register")?;
+    wire.send(REFRESH_V).map_err(refused)?;
+    wire.read(FIRST_SUM, register).map_err(refused)?;
     Ok(u64::from_be_bytes(sum))
-}
-
-// The scenario, then a last draw and booking. Cycles go on coming, so that some are left running.
-fn play<W: Wire>(bench: &mut Bench<W>, scenario: Scenario) -> anyhow::Result<Closing> {
-    scenario.play(bench)?;
-    bench.draw()?;
-    bench.book()?;
-    bench.closing()
-}
-
-// What was answered, if the wire did not fail. Any other refusal ends the run.
-fn heard<T: Drop>(answer: Result<T, Refusal>, refused: &mut Refused) -> anyhow::Result<Option<T>> {
-    match answer {
-        Ok(value) => return Ok(Some(value)),
-        Err(Refusal::NotAcknowledged(Who::Wire, _)) => refused.count_not_acknowledged(),
-        Err(Refusal::Broken(_)) => refused.count_broken(),
-        Err(refusal) => bail!("refused by {refusal:?}"),
-    }
-    Ok(None)
 }
 
 fn refused(refusal: Refusal) -> anyhow::Error {
@@ -123,49 +101,92 @@ fn refused(refusal: Refusal) -> anyhow::Error {
 }
 
 impl<W: Wire> Bench<'_, W> {
-    fn place(&mut self, outcome: u8) -> anyhow::Result<()> {
-        self.counts.place(outcome);
-        self.desk.add(outcome).map_err(refused)
+    // The scenario, then a last draw and booking. Cycles go on coming, so that some are left running.
+    fn play(&mut self, scenario: Scenario) -> anyhow::Result<Closing> {
+        self.counts.count(RUNS);
+        for step in scenario.steps {
+            self.take(*step)?;
+        }
+        self.take(Step::Draw)?;
+        self.take(Step::Book)?;
+        self.closing()
     }
 
-    // From here on the script's outcomes are placed.
-    pub(crate) fn place_script(&mut self) -> anyhow::Result<()> {
-        for outcome in self.script.outcomes() {
+    // A step until it is done.
+    fn take(&mut self, step: Step) -> anyhow::Result<()> {
+        for _ in 0..TRIES {
+            if self.attempt(step)? {
+                return Ok(());
+            }
+        }
+        bail!("a call was refused {TRIES} times")
+    }
+
+    // One try of a step; whether it is done.
+    fn attempt(&mut self, step: Step) -> anyhow::Result<bool> {
+        self.cycle()?;
+        match step {
+            Step::Draw => return self.draw(),
+            Step::Book => return self.book(),
+            Step::Look(in_force) => return self.look(in_force),
+            Step::TryDraw => {
+                self.draw()?;
+            }
+            Step::Doubt { carried_out } => self.doubt(carried_out)?,
+            Step::RefusedLook => self.refused_look()?,
+            Step::Script => self.place_script()?,
+            Step::SetUp(settings) => self.set_up(settings)?,
+            Step::WriteOff => self.write_off()?,
+        }
+        Ok(true)
+    }
+
+    fn cycle(&mut self) -> anyhow::Result<()> {
+        ensure!(self.log.cycles < MOST_CYCLES, "too many cycles");
+        let cycle = Cycle(self.log.cycles);
+        self.log.cycles += 1;
+        self.desk.cycle(cycle.all_codes(self.log.kind));
+        Ok(())
+    }
+
+    fn place_script(&mut self) -> anyhow::Result<()> {
+        for outcome in self.script {
             self.place(outcome)?;
         }
         Ok(())
     }
 
-    // A draw whose REFRESH breaks, and what only the wire knows: whether it was carried out.
-    pub(crate) fn doubt(&mut self, carried_out: bool) -> anyhow::Result<()> {
-        for _ in 0..self.log.kind().writes() {
-            self.place(PASS)?;
-        }
-        self.place(if carried_out { LOST } else { BREAKS })?;
-        let drawn = self.try_draw()?;
-        ensure!(!drawn, "a draw was done whose REFRESH broke");
-        self.log.learn(carried_out);
-        Ok(())
+    fn place(&mut self, outcome: u8) -> anyhow::Result<()> {
+        self.counts.count(OUTCOMES + usize::from(outcome));
+        self.desk.add(outcome).map_err(refused)
     }
 
-    fn cycle(&mut self) -> anyhow::Result<()> {
-        let cycle = self.log.cycle()?;
-        self.desk.cycle(cycle.codes(self.log.kind()));
-        Ok(())
-    }
-
-    pub(crate) fn set_up(&mut self, settings: Settings) -> anyhow::Result<()> {
-        self.log.set_up(settings);
+    fn set_up(&mut self, settings: Settings) -> anyhow::Result<()> {
+        self.log.wanted = settings;
         self.desk
             .set_up(settings.rate, settings.off, settings.two_way)
             .map_err(refused)
     }
 
-    // One try of a draw; whether a slip was handed out.
-    pub(crate) fn try_draw(&mut self) -> anyhow::Result<bool> {
-        self.cycle()?;
+    // What only the wire knows: whether the REFRESH was carried out.
+    fn doubt(&mut self, carried_out: bool) -> anyhow::Result<()> {
+        for _ in 0..self.log.kind.writes {
+            self.place(PASS)?;
+        }
+        self.place(if carried_out { LOST } else { BREAKS })?;
+        let drawn = self.draw()?;
+        ensure!(!drawn, "a draw was done whose REFRESH broke");
+        self.log.learn(carried_out);
+        Ok(())
+    }
+
+    fn draw(&mut self) -> anyhow::Result<bool> {
+        if self.log.slip_out {
+            return Ok(true);
+        }
         self.log.ask();
-        let Some(number) = heard(self.desk.draw(), &mut self.counts.draws)? else {
+        let answer = self.desk.draw();
+        let Some(number) = heard(answer, &mut self.counts, DRAWS)? else {
             return Ok(false);
         };
         let expected = self.log.hand_out();
@@ -173,66 +194,43 @@ impl<W: Wire> Bench<'_, W> {
         Ok(true)
     }
 
-    pub(crate) fn draw(&mut self) -> anyhow::Result<()> {
-        for _ in 0..TRIES {
-            if self.try_draw()? {
-                return Ok(());
-            }
-        }
-        bail!("a draw was refused {TRIES} times")
-    }
-
-    // One try of a booking; whether the entry was made.
-    fn try_book(&mut self) -> anyhow::Result<bool> {
-        self.cycle()?;
-        let Some(entry) = heard(self.desk.book(), &mut self.counts.bookings)? else {
+    fn book(&mut self) -> anyhow::Result<bool> {
+        let answer = self.desk.book();
+        let Some(entry) = heard(answer, &mut self.counts, BOOKINGS)? else {
             return Ok(false);
         };
-        ensure!(self.entries < PLACES, "more than {PLACES} entries");
-        self.answered[self.entries] = entry;
-        self.entries += 1;
+        let place = self.answered.get_mut(self.tally.entries);
+        *place.context("too many entries")? = entry;
+        self.log.slip_out = false;
+        self.tally.take(&self.log, entry)?;
         Ok(true)
     }
 
-    pub(crate) fn book(&mut self) -> anyhow::Result<()> {
-        for _ in 0..TRIES {
-            if self.try_book()? {
-                return Ok(());
-            }
-        }
-        bail!("a booking was refused {TRIES} times")
-    }
-
-    pub(crate) fn write_off(&mut self) -> anyhow::Result<()> {
-        self.cycle()?;
+    fn write_off(&mut self) -> anyhow::Result<()> {
         self.log.write_off();
         self.desk.write_off().map_err(refused)
     }
 
-    // One try of a look at the sense of channel 3; whether it was done.
-    fn try_look(&mut self, in_force: Settings) -> anyhow::Result<bool> {
-        self.cycle()?;
-        let Some(reading) = heard(self.desk.look(3, SENSE), &mut self.counts.looks)? else {
+    // A look at the sense of channel 3.
+    fn look(&mut self, in_force: Settings) -> anyhow::Result<bool> {
+        let answer = self.desk.look(3, SENSE);
+        let Some(reading) = heard(answer, &mut self.counts, LOOKS)? else {
             return Ok(false);
         };
-        let expected = self.log.latest().millivolts(self.log.kind(), in_force);
+        let latest = Cycle(self.log.cycles.saturating_sub(1));
+        let expected = latest.millivolts(self.log.kind, in_force);
         let agrees = matches!(reading, Reading::Millivolts(shown) if shown == expected);
         ensure!(agrees, "a look does not answer {expected} mV");
         Ok(true)
     }
 
-    pub(crate) fn look(&mut self, in_force: Settings) -> anyhow::Result<()> {
-        for _ in 0..TRIES {
-            if self.try_look(in_force)? {
-                return Ok(());
-            }
-        }
-        bail!("a look was refused {TRIES} times")
-    }
-
-    // A look that the meter itself refuses.
-    pub(crate) fn no_look(&mut self, expected: Refusal) -> anyhow::Result<()> {
-        self.cycle()?;
+    // By 4 if a slip is out, else by 5.
+    fn refused_look(&mut self) -> anyhow::Result<()> {
+        let expected = if self.log.slip_out {
+            Refusal::SlipOut
+        } else {
+            Refusal::NotReady
+        };
         let refusal = self.desk.look(3, SENSE).err();
         ensure!(
             refusal == Some(expected),
@@ -243,15 +241,30 @@ impl<W: Wire> Bench<'_, W> {
 
     // What is running, the chip tells later.
     fn closing(&self) -> anyhow::Result<Closing> {
-        let mut bills = [NO_BILL; 4];
-        for (channel, bill) in (1..=4).zip(&mut bills) {
-            *bill = self.desk.bill(channel, 1).map_err(refused)?;
-        }
         Ok(Closing {
             last: self.desk.meter().last(),
             write_offs: self.desk.meter().write_offs(),
             running: 0,
-            bills,
+            bills: [self.bill(1)?, self.bill(2)?, self.bill(3)?, self.bill(4)?],
         })
     }
+
+    fn bill(&self, channel: u8) -> anyhow::Result<Bill> {
+        self.desk.bill(channel, 1).map_err(refused)
+    }
+}
+
+// What was answered, if the wire did not fail. Any other refusal ends the run.
+fn heard<T: Drop>(
+    answer: Result<T, Refusal>,
+    counts: &mut Counts,
+    [by_2, by_3]: [usize; 2],
+) -> anyhow::Result<Option<T>> {
+    match answer {
+        Ok(value) => return Ok(Some(value)),
+        Err(Refusal::NotAcknowledged(Who::Wire, _)) => counts.count(by_2),
+        Err(Refusal::Broken(_)) => counts.count(by_3),
+        Err(refusal) => bail!("refused by {refusal:?}"),
+    }
+    Ok(None)
 }

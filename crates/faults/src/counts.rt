@@ -3,120 +3,66 @@
 use std::fmt;
 
 // Over the columns of the table, in two lines.
-pub(crate) const GROUPS: &str =
-    "                                                              outcomes placed     draws refused  bookings refused     looks refused";
+pub(crate) const HEADING: &str =
+    "                                                              outcomes placed     draws refused  bookings refused     looks refused
+kind     scenario                    runs        0        1        2        3     by 2     by 3     by 2     by 3     by 2     by 3";
 
-pub(crate) const COLUMNS: &str =
-    "kind     scenario                    runs        0        1        2        3     by 2     by 3     by 2     by 3     by 2     by 3";
+// Columns of the table: the first of the outcomes' four, and of each kind of call those that were refused by 2 and by 3.
+pub(crate) const RUNS: usize = 0;
 
-// Outcomes that were placed, by their kind.
+pub(crate) const OUTCOMES: usize = 1;
+
+pub(crate) const DRAWS: [usize; 2] = [5, 6];
+
+pub(crate) const BOOKINGS: [usize; 2] = [7, 8];
+
+pub(crate) const LOOKS: [usize; 2] = [9, 10];
+
+const COLUMNS: usize = 11;
+
+// A line of the table.
 #[derive(Clone, Copy, Default)]
-struct Placed {
-    passes: u32,
-    not_acknowledged: u32,
-    breaks: u32,
-    lost: u32,
-}
-
-impl Placed {
-    fn count(&mut self, outcome: u8) {
-        let count = match outcome {
-            0 => &mut self.passes,
-            1 => &mut self.not_acknowledged,
-            2 => &mut self.breaks,
-            _ => &mut self.lost,
-        };
-        *count = count.saturating_add(1);
-    }
-
-    fn add(&mut self, other: Placed) {
-        self.passes = self.passes.saturating_add(other.passes);
-        self.not_acknowledged = self.not_acknowledged.saturating_add(other.not_acknowledged);
-        self.breaks = self.breaks.saturating_add(other.breaks);
-        self.lost = self.lost.saturating_add(other.lost);
-    }
-
-    // What they are heard as.
-    fn heard(self) -> Refused {
-        Refused {
-            not_acknowledged: self.not_acknowledged,
-            broken: self.breaks.saturating_add(self.lost),
-        }
-    }
-}
-
-// Calls that were refused by 2, and those by 3.
-#[derive(Clone, Copy, Default, PartialEq, Eq)]
-pub(crate) struct Refused {
-    not_acknowledged: u32,
-    broken: u32,
-}
-
-impl Refused {
-    pub(crate) fn count_not_acknowledged(&mut self) {
-        self.not_acknowledged = self.not_acknowledged.saturating_add(1);
-    }
-
-    pub(crate) fn count_broken(&mut self) {
-        self.broken = self.broken.saturating_add(1);
-    }
-
-    fn and(self, other: Refused) -> Refused {
-        Refused {
-            not_acknowledged: self.not_acknowledged.saturating_add(other.not_acknowledged),
-            broken: self.broken.saturating_add(other.broken),
-        }
-    }
-}
-
-impl fmt::Display for Refused {
-    fn fmt<W: fmt::Write>(&self, f: &mut fmt::Formatter<W>) -> fmt::Result {
-        write!(f, "{:>9}{:>9}", self.not_acknowledged, self.broken)
-    }
-}
-
-#[derive(Clone, Copy, Default)]
-pub(crate) struct Counts {
-    runs: u32,
-    placed: Placed,
-    pub(crate) draws: Refused,
-    pub(crate) bookings: Refused,
-    pub(crate) looks: Refused,
-}
+pub(crate) struct Counts([u32; COLUMNS]);
 
 impl Counts {
-    // Of a run that begins.
-    pub(crate) fn of_run() -> Counts {
-        Counts {
-            runs: 1,
-            ..Counts::default()
+    pub(crate) fn count(&mut self, column: usize) {
+        if let Some(count) = self.0.get_mut(column) {
+            *count = count.saturating_add(1);
         }
-    }
-
-    pub(crate) fn place(&mut self, outcome: u8) {
-        self.placed.count(outcome);
     }
 
     // Whether each failure that was placed refused one call, and nothing else did.
     pub(crate) fn all_struck(&self) -> bool {
-        self.placed.heard() == self.draws.and(self.bookings).and(self.looks)
+        let [
+            _,
+            _,
+            failed,
+            broken,
+            lost,
+            draws_2,
+            draws_3,
+            bookings_2,
+            bookings_3,
+            looks_2,
+            looks_3,
+        ] = self.0;
+        let by_2 = draws_2.saturating_add(bookings_2).saturating_add(looks_2);
+        let by_3 = draws_3.saturating_add(bookings_3).saturating_add(looks_3);
+        by_2 == failed && by_3 == broken.saturating_add(lost)
     }
 
     pub(crate) fn add(&mut self, other: Counts) {
-        self.runs = self.runs.saturating_add(other.runs);
-        self.placed.add(other.placed);
-        self.draws = self.draws.and(other.draws);
-        self.bookings = self.bookings.and(other.bookings);
-        self.looks = self.looks.and(other.looks);
+        for column in 0..COLUMNS {
+            self.0[column] = self.0[column].saturating_add(other.0[column]);
+        }
     }
 }
 
 impl fmt::Display for Counts {
     fn fmt<W: fmt::Write>(&self, f: &mut fmt::Formatter<W>) -> fmt::Result {
-        let placed = &self.placed;
-        write!(f, "{:>8}{:>9}", self.runs, placed.passes)?;
-        write!(f, "{:>9}{:>9}", placed.not_acknowledged, placed.breaks)?;
-        write!(f, "{:>9}", placed.lost)?;
-        write!(f, "{}{}{}", self.draws, self.bookings, self.looks)
+        for count in self.0 {
+            write!(f, "{count:>9}")?;
+        }
+        Ok(())
     }
 }

@@ -1,7 +1,7 @@
 //! Cycles that tell themselves apart: each has codes by its own number.
 
 use super::kind::Kind;
-use super::settings::Settings;
+use super::settings::{self, Settings};
 use chip::state::Codes;
 
 // How many cycles have a power of two of their own, on a two-way channel too.
@@ -21,27 +21,8 @@ struct Factors {
     sense: i16,
 }
 
-impl Factors {
-    fn codes(self, kind: Kind) -> Codes {
-        let sense = self.sense.wrapping_mul(kind.sense_step());
-        Codes {
-            bus: self.bus.wrapping_mul(4),
-            sense: sense.cast_unsigned(),
-        }
-    }
-
-    fn product(self, kind: Kind, two_way: bool) -> i64 {
-        let sense = if two_way {
-            i32::from(self.sense)
-        } else {
-            kind.one_way(self.sense)
-        };
-        i64::from(self.bus) * i64::from(sense)
-    }
-}
-
 impl Cycle {
-    // Channel 1 has 2^n in cycle n. Channel 3 has negative codes, and the others are only unlike.
+    // Channel 1 has 2^n in cycle n. Channel 3 has negative codes, and the others are only unlike. Channels count from 0.
     fn factors(self, channel: usize) -> Factors {
         let number = self.0;
         let by_bus = number.min(BUS_BITS);
@@ -66,23 +47,40 @@ impl Cycle {
         }
     }
 
-    pub(crate) fn codes(self, kind: Kind) -> [Codes; 4] {
-        [0, 1, 2, 3].map(|channel| self.factors(channel).codes(kind))
+    fn codes(self, kind: Kind, channel: usize) -> Codes {
+        let Factors { bus, sense } = self.factors(channel);
+        Codes {
+            bus: bus.wrapping_mul(4),
+            sense: sense.wrapping_mul(kind.sense_step).cast_unsigned(),
+        }
     }
 
-    // What it adds to a channel's sum, which counts from 0.
+    pub(crate) fn all_codes(self, kind: Kind) -> [Codes; 4] {
+        [
+            self.codes(kind, 0),
+            self.codes(kind, 1),
+            self.codes(kind, 2),
+            self.codes(kind, 3),
+        ]
+    }
+
+    // What it adds to a channel's sum.
     pub(crate) fn product(self, kind: Kind, settings: Settings, channel: usize) -> i64 {
-        if settings.is_off(channel) {
+        let Factors { bus, sense } = self.factors(channel);
+        if settings::is_in(settings.off, channel) {
             return 0;
         }
-        let two_way = settings.is_two_way(channel);
-        self.factors(channel).product(kind, two_way)
+        let mut steps = i64::from(sense);
+        if sense < 0 && !settings::is_in(settings.two_way, channel) {
+            steps += i64::from(kind.sense_span);
+        }
+        i64::from(bus).saturating_mul(steps)
     }
 
     // What a look at the sense of channel 3 is to answer, by the data sheet.
     pub(crate) fn millivolts(self, kind: Kind, settings: Settings) -> f64 {
-        let code = self.factors(2).codes(kind).sense;
-        if settings.is_two_way(2) {
+        let code = self.codes(kind, 2).sense;
+        if settings::is_in(settings.two_way, 2) {
             100.0 * (f64::from(code.cast_signed()) / 32768.0)
         } else {
             100.0 * (f64::from(code) / 65536.0)

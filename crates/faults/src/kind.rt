@@ -1,14 +1,22 @@
 //! What is known of each kind of chip, from its data sheet alone.
-ghost use Rattle.std.specs.Prelude.{◌≤◌};
 
 use chip::make::Make;
 use makes::pac193x::Pac193x;
 use makes::pac194x::Pac194x;
 
 #[derive(Clone, Copy)]
-pub(crate) enum Kind {
-    Pac193x,
-    Pac194x,
+pub(crate) struct Kind {
+    pub(crate) name: &'static str,
+    // how many sense codes one step of a product is: its lowest two bits are not used by the one
+    pub(crate) sense_step: i16,
+    // how many such steps a negative sense is larger by where it is read one-way
+    pub(crate) sense_span: i32,
+    // how many writes come before the REFRESH of a draw
+    pub(crate) writes: u8,
+    // where a sum register begins in eight bytes that end with it
+    pub(crate) sum_start: usize,
+    // what one step of a weighed sum is worth over a tenth of a milliohm, where 2^34 are a millijoule
+    pub(crate) step_worth: i32,
 }
 
 // A make of a kind that is known here.
@@ -16,62 +24,33 @@ pub(crate) trait Known: Make + Drop {
     const KIND: Kind;
 }
 
+// Its sums have six bytes, and a step is worth 15625/2^27 millijoules.
 impl Known for Pac193x {
-    const KIND: Kind = Kind::Pac193x;
+    const KIND: Kind = Kind {
+        name: "PAC193X",
+        sense_step: 4,
+        sense_span: 1 << 14,
+        writes: 3,
+        sum_start: 2,
+        step_worth: 15_625 << 7,
+    };
 }
 
+// Its sums have seven bytes.
 impl Known for Pac194x {
-    const KIND: Kind = Kind::Pac194x;
+    const KIND: Kind = Kind {
+        name: "PAC194X",
+        sense_step: 1,
+        sense_span: 1 << 16,
+        writes: 2,
+        sum_start: 1,
+        step_worth: 140_625,
+    };
 }
 
 impl Kind {
-    pub(crate) fn name(self) -> &'static str {
-        match self {
-            Kind::Pac193x => "PAC193X",
-            Kind::Pac194x => "PAC194X",
-        }
-    }
-
-    // How many sense codes one step of a product is: its lowest two bits are not used by the one.
-    pub(crate) fn sense_step(self) -> i16 {
-        match self {
-            Kind::Pac193x => 4,
-            Kind::Pac194x => 1,
-        }
-    }
-
-    // What a sense in such steps is where it is read one-way: a negative one is large.
-    pub(crate) fn one_way(self, sense: i16) -> i32 {
-        match self {
-            Kind::Pac193x => i32::from(sense).rem_euclid(1 << 14),
-            Kind::Pac194x => i32::from(sense).rem_euclid(1 << 16),
-        }
-    }
-
-    // How many writes come before the REFRESH of a draw.
-    pub(crate) fn writes(self) -> u8 {
-        match self {
-            Kind::Pac193x => 3,
-            Kind::Pac194x => 2,
-        }
-    }
-
-    // How many bytes a sum register has.
-    pub(crate) fn sum_bytes(self) -> usize
-        ensures { result ≤ 8 }
-    {
-        match self {
-            Kind::Pac193x => 6,
-            Kind::Pac194x => 7,
-        }
-    }
-
     // What weighed sums are worth over a tenth of a milliohm, in millijoules rounded down.
     pub(crate) fn energy(self, weighed: i64) -> i128 {
-        let weighed = i128::from(weighed);
-        match self {
-            Kind::Pac193x => (15_625 * weighed).div_euclid(1 << 27),
-            Kind::Pac194x => (140_625 * weighed).div_euclid(1 << 34),
-        }
+        (i128::from(self.step_worth) * i128::from(weighed)).div_euclid(1 << 34)
     }
 }

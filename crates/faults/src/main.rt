@@ -17,25 +17,28 @@ use counts::Counts;
 use kind::Known;
 use makes::pac193x::Pac193x;
 use makes::pac194x::Pac194x;
-use scenario::Scenario;
-use script::Script;
+use scenario::{SCENARIOS, Scenario};
 
 fn main(rt: HostRuntime) -> anyhow::Result<()> {
-    println!(rt; "every script of {} outcomes, then passes", script::LENGTH)?;
-    rt.println(counts::GROUPS)?;
-    rt.println(counts::COLUMNS)?;
+    println!(rt;
+        "every script of {} outcomes, then passes\n{}",
+        script::LENGTH,
+        counts::HEADING
+    )?;
     let mut total = Counts::default();
     check_kind::<Pac193x>(&rt, &mut total)?;
     check_kind::<Pac194x>(&rt, &mut total)?;
-    println!(rt; "{:<33}{total}", "in all")?;
-    rt.println("every account agrees with its cycles")?;
+    println!(rt;
+        "{:<32}{total}\nevery account agrees with its cycles",
+        "in all"
+    )?;
     Ok(())
 }
 
 fn check_kind<C: Known>(rt: &impl Print, total: &mut Counts) -> anyhow::Result<()> {
-    for scenario in Scenario::ALL {
+    for scenario in SCENARIOS {
         let counts = check_scenario::<C>(scenario)?;
-        println!(rt; "{}  {:<24}{counts}", C::KIND.name(), scenario.name())?;
+        println!(rt; "{}  {:<23}{counts}", C::KIND.name, scenario.name)?;
         total.add(counts);
     }
     Ok(())
@@ -44,12 +47,12 @@ fn check_kind<C: Known>(rt: &impl Print, total: &mut Counts) -> anyhow::Result<(
 // Every script.
 fn check_scenario<C: Known>(scenario: Scenario) -> anyhow::Result<Counts> {
     let mut counts = Counts::default();
-    for number in 0..Script::COUNT {
-        let script = Script { number };
+    for number in 0..script::COUNT {
+        let script = script::numbered(number);
         let run = bench::run::<C>(scenario, script).context(format_args!(
-            "{}, {}, script {script}",
-            C::KIND.name(),
-            scenario.name()
+            "{}, {}, script {script:?}",
+            C::KIND.name,
+            scenario.name
         ))?;
         counts.add(run);
     }

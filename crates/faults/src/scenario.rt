@@ -1,135 +1,132 @@
-//! What is played: calls that are tried until they are done, with the script's outcomes from some point on.
+//! What is played: steps of a run, with the script's outcomes from some step on. After them come a last draw and its booking.
 
-use super::bench::Bench;
 use super::settings::Settings;
-use chip::refusal::Refusal;
-use wire::wire::Wire;
 
 #[derive(Clone, Copy)]
-pub(crate) enum Scenario {
-    TwoDraws,
-    SecondDraw,
-    Booking,
-    ChangedSetUp,
-    BrokenRefresh,
-    LostReply,
-    Looks,
+pub(crate) enum Step {
+    // the script's outcomes are placed
+    Script,
+    SetUp(Settings),
+    // a draw whose REFRESH breaks, carried out or not
+    Doubt { carried_out: bool },
+    // one try of a draw
+    TryDraw,
+    // a draw until it is done, if its slip is not out already
+    Draw,
+    Book,
+    // the slip that is out is given up, however it came
     WriteOff,
+    // a look until it is done, and the settings that are in force
+    Look(Settings),
+    // a look after the first try of a draw, which the meter itself refuses
+    RefusedLook,
 }
 
-impl Scenario {
-    pub(crate) const ALL: [Scenario; 8] = [
-        Scenario::TwoDraws,
-        Scenario::SecondDraw,
-        Scenario::Booking,
-        Scenario::ChangedSetUp,
-        Scenario::BrokenRefresh,
-        Scenario::LostReply,
-        Scenario::Looks,
-        Scenario::WriteOff,
-    ];
-
-    pub(crate) fn name(self) -> &'static str {
-        match self {
-            Scenario::TwoDraws => "two draws",
-            Scenario::SecondDraw => "the second draw",
-            Scenario::Booking => "a booking",
-            Scenario::ChangedSetUp => "a changed set-up",
-            Scenario::BrokenRefresh => "after a broken REFRESH",
-            Scenario::LostReply => "after a lost reply",
-            Scenario::Looks => "looks",
-            Scenario::WriteOff => "a write-off",
-        }
-    }
-
-    pub(crate) fn play<W: Wire>(self, bench: &mut Bench<W>) -> anyhow::Result<()> {
-        match self {
-            Scenario::TwoDraws => two_draws(bench),
-            Scenario::SecondDraw => second_draw(bench),
-            Scenario::Booking => booking(bench),
-            Scenario::ChangedSetUp => changed_set_up(bench),
-            Scenario::BrokenRefresh => recovery(bench, false),
-            Scenario::LostReply => recovery(bench, true),
-            Scenario::Looks => looks(bench),
-            Scenario::WriteOff => write_off(bench),
-        }
-    }
+#[derive(Clone, Copy)]
+pub(crate) struct Scenario {
+    pub(crate) name: &'static str,
+    pub(crate) steps: &'static [Step],
 }
 
-fn two_draws<W: Wire>(bench: &mut Bench<W>) -> anyhow::Result<()> {
-    bench.place_script()?;
-    bench.set_up(Settings::QUIET)?;
-    bench.draw()?;
-    bench.book()?;
-    bench.draw()?;
-    bench.book()
-}
-
-// Its mark is the other one.
-fn second_draw<W: Wire>(bench: &mut Bench<W>) -> anyhow::Result<()> {
-    bench.draw()?;
-    bench.book()?;
-    bench.set_up(Settings::SLOW)?;
-    bench.place_script()?;
-    bench.draw()?;
-    bench.book()
-}
-
-fn booking<W: Wire>(bench: &mut Bench<W>) -> anyhow::Result<()> {
-    bench.set_up(Settings::QUIET)?;
-    bench.draw()?;
-    bench.place_script()?;
-    bench.book()?;
-    bench.draw()?;
-    bench.book()
-}
-
-// The second set-up is stored while the draw is unfinished or in doubt, or while its slip is out.
-fn changed_set_up<W: Wire>(bench: &mut Bench<W>) -> anyhow::Result<()> {
-    bench.place_script()?;
-    bench.set_up(Settings::QUIET)?;
-    let drawn = bench.try_draw()?;
-    bench.set_up(Settings::SLOW)?;
-    if !drawn {
-        bench.draw()?;
-    }
-    bench.book()?;
-    bench.draw()?;
-    bench.book()
-}
-
-// A draw that is tried again in doubt of its REFRESH, with another set-up wanted by then.
-fn recovery<W: Wire>(bench: &mut Bench<W>, carried_out: bool) -> anyhow::Result<()> {
-    bench.set_up(Settings::QUIET)?;
-    bench.doubt(carried_out)?;
-    bench.set_up(Settings::SLOW)?;
-    bench.place_script()?;
-    bench.draw()?;
-    bench.book()?;
-    bench.draw()?;
-    bench.book()
-}
-
-// A look before a draw, and looks that are refused after its first try: by 4 if its slip is out, else by 5.
-fn looks<W: Wire>(bench: &mut Bench<W>) -> anyhow::Result<()> {
-    bench.place_script()?;
-    bench.set_up(Settings::QUIET)?;
-    bench.look(Settings::FRESH)?;
-    if !bench.try_draw()? {
-        bench.no_look(Refusal::NotReady)?;
-        bench.draw()?;
-    }
-    bench.no_look(Refusal::SlipOut)?;
-    bench.book()?;
-    bench.look(Settings::QUIET)
-}
-
-// The stretch of the first draw is given up, however its slip came.
-fn write_off<W: Wire>(bench: &mut Bench<W>) -> anyhow::Result<()> {
-    bench.place_script()?;
-    bench.set_up(Settings::QUIET)?;
-    bench.draw()?;
-    bench.write_off()?;
-    bench.draw()?;
-    bench.book()
-}
+pub(crate) const SCENARIOS: [Scenario; 8] = [
+    Scenario {
+        name: "two draws",
+        steps: &[
+            Step::Script,
+            Step::SetUp(Settings::QUIET),
+            Step::Draw,
+            Step::Book,
+            Step::Draw,
+            Step::Book,
+        ],
+    },
+    // Its mark is the other one.
+    Scenario {
+        name: "the second draw",
+        steps: &[
+            Step::Draw,
+            Step::Book,
+            Step::SetUp(Settings::SLOW),
+            Step::Script,
+            Step::Draw,
+            Step::Book,
+        ],
+    },
+    Scenario {
+        name: "a booking",
+        steps: &[
+            Step::SetUp(Settings::QUIET),
+            Step::Draw,
+            Step::Script,
+            Step::Book,
+            Step::Draw,
+            Step::Book,
+        ],
+    },
+    // The second set-up is stored while the draw is unfinished or in doubt, or while its slip is out.
+    Scenario {
+        name: "a changed set-up",
+        steps: &[
+            Step::Script,
+            Step::SetUp(Settings::QUIET),
+            Step::TryDraw,
+            Step::SetUp(Settings::SLOW),
+            Step::Draw,
+            Step::Book,
+            Step::Draw,
+            Step::Book,
+        ],
+    },
+    // A draw that is tried again in doubt of its REFRESH, with another set-up wanted by then.
+    Scenario {
+        name: "after a broken REFRESH",
+        steps: &[
+            Step::SetUp(Settings::QUIET),
+            Step::Doubt { carried_out: false },
+            Step::SetUp(Settings::SLOW),
+            Step::Script,
+            Step::Draw,
+            Step::Book,
+            Step::Draw,
+            Step::Book,
+        ],
+    },
+    Scenario {
+        name: "after a lost reply",
+        steps: &[
+            Step::SetUp(Settings::QUIET),
+            Step::Doubt { carried_out: true },
+            Step::SetUp(Settings::SLOW),
+            Step::Script,
+            Step::Draw,
+            Step::Book,
+            Step::Draw,
+            Step::Book,
+        ],
+    },
+    Scenario {
+        name: "looks",
+        steps: &[
+            Step::Script,
+            Step::SetUp(Settings::QUIET),
+            Step::Look(Settings::FRESH),
+            Step::TryDraw,
+            Step::RefusedLook,
+            Step::Draw,
+            Step::RefusedLook,
+            Step::Book,
+            Step::Look(Settings::QUIET),
+        ],
+    },
+    Scenario {
+        name: "a write-off",
+        steps: &[
+            Step::Script,
+            Step::SetUp(Settings::QUIET),
+            Step::Draw,
+            Step::WriteOff,
+            Step::Draw,
+            Step::Book,
+        ],
+    },
+];

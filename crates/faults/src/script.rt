@@ -1,36 +1,20 @@
 //! Scripts of outcomes.
 
-use std::fmt;
-
 // How many outcomes a script has.
 pub(crate) const LENGTH: usize = 8;
 
-// One of all scripts of that length: its number in base 4, the first outcome in the lowest digit.
-#[derive(Clone, Copy)]
-pub(crate) struct Script {
-    pub(crate) number: u32,
-}
+pub(crate) type Script = [u8; LENGTH];
 
-impl Script {
-    // How many there are: 4 for each outcome.
-    pub(crate) const COUNT: u32 = 1 << (2 * LENGTH);
+// How many scripts there are: 4 for each outcome.
+pub(crate) const COUNT: u32 = 1 << (2 * LENGTH);
 
-    pub(crate) fn outcomes(self) -> [u8; LENGTH] {
-        let mut rest = self.number;
-        let mut outcomes = [0; LENGTH];
-        for outcome in &mut outcomes {
-            *outcome = (rest % 4) as u8;
-            rest /= 4;
-        }
-        outcomes
+// One of them by its number, which has the first outcome in its lowest digit in base 4.
+pub(crate) fn numbered(number: u32) -> Script {
+    let mut rest = number;
+    let mut script = [0; LENGTH];
+    for outcome in &mut script {
+        *outcome = (rest % 4) as u8;
+        rest /= 4;
     }
-}
-
-impl fmt::Display for Script {
-    fn fmt<W: fmt::Write>(&self, f: &mut fmt::Formatter<W>) -> fmt::Result {
-        for outcome in &self.outcomes() {
-            write!(f, "{outcome}")?;
-        }
-        Ok(())
-    }
+    script
 }

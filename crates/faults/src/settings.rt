@@ -1,7 +1,5 @@
 //! Settings of a chip.
 
-use chip::entry::Entry;
-
 #[derive(Clone, Copy)]
 pub(crate) struct Settings {
     pub(crate) rate: u8,
@@ -31,15 +29,6 @@ impl Settings {
         two_way: 0b1001,
     };
 
-    // Channels count from 0; bit 3 is the first.
-    pub(crate) fn is_off(self, channel: usize) -> bool {
-        is_in(self.off, channel)
-    }
-
-    pub(crate) fn is_two_way(self, channel: usize) -> bool {
-        is_in(self.two_way, channel)
-    }
-
     // What one step of a sum counts: the length of a cycle in 1024ths of a second, and twice as much two-way.
     pub(crate) fn weight(self, channel: usize) -> i64 {
         let length = match self.rate {
@@ -48,7 +37,7 @@ impl Settings {
             2 => 16,
             _ => 128,
         };
-        if self.is_two_way(channel) {
+        if is_in(self.two_way, channel) {
             2 * length
         } else {
             length
@@ -56,7 +45,8 @@ impl Settings {
     }
 }
 
-fn is_in(mask: u8, channel: usize) -> bool {
+// Whether a mask has a channel. Channels count from 0; bit 3 is the first.
+pub(crate) fn is_in(mask: u8, channel: usize) -> bool {
     let bit = match channel {
         0 => 0b1000,
         1 => 0b0100,

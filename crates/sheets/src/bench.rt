@@ -1,6 +1,7 @@
 //! A meter at a desk, and what it shows of a case.
 
 use super::case::Case;
+use anyhow::{anyhow, bail};
 use chip::entry::Entry;
 use chip::make::Make;
 use chip::refusal::Refusal;
@@ -16,8 +17,10 @@ const POWER: u8 = 0x17;
 // What the meter and the power register of channel 1 show.
 #[derive(Clone, Copy)]
 pub(crate) struct Shown {
-    pub(crate) bus: Reading,
-    pub(crate) sense: Reading,
+    // in volts
+    pub(crate) bus: f64,
+    // in millivolts
+    pub(crate) sense: f64,
     // in millijoules
     pub(crate) energy: f64,
     pub(crate) power: u32,
@@ -29,7 +32,9 @@ pub(crate) fn measure<M: Make + Drop>(case: &Case) -> anyhow::Result<Shown> {
     let mut desk = Desk::new(Scripted::new(Direct::<M>::new()), &mut places);
     let metered = run(&mut desk, case);
     let (mut wire, _book) = desk.end();
-    let (bus, sense, energy) = metered.map_err(refused)?;
+    let (Reading::Volts(bus), Reading::Millivolts(sense), energy) = metered.map_err(refused)? else {
+        bail!("a look answers another quantity");
+    };
     let mut power = [0; 4];
     wire.read(POWER, &mut power).map_err(refused)?;
     Ok(Shown {
@@ -41,12 +46,12 @@ pub(crate) fn measure<M: Make + Drop>(case: &Case) -> anyhow::Result<Shown> {
 }
 
 pub(crate) fn refused(refusal: Refusal) -> anyhow::Error {
-    anyhow::anyhow!("refused: {refusal:?}")
+    anyhow!("refused: {refusal:?}")
 }
 
 // Its settings come in force with a first draw. Then its cycles come, both quantities are looked at, and a second draw is booked and billed.
 fn run<W: Wire>(desk: &mut Desk<W>, case: &Case) -> Result<(Reading, Reading, f64), Refusal> {
-    desk.set_up(case.rate.code(), 0, case.sense.mask())?;
+    desk.set_up(case.rate.code, 0, case.sense.mask())?;
     desk.draw()?;
     desk.book()?;
     for _ in 0..case.cycles {

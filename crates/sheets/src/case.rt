@@ -41,41 +41,32 @@ impl Sense {
     }
 }
 
+// As a set-up takes it, and in cycles.
 #[derive(Clone, Copy)]
-pub(crate) enum Rate {
-    Hertz1024,
-    Hertz256,
-    Hertz64,
-    Hertz8,
+pub(crate) struct Rate {
+    pub(crate) code: u8,
+    pub(crate) per_second: u16,
 }
 
-impl Rate {
-    pub(crate) const ALL: [Rate; 4] = [
-        Rate::Hertz1024,
-        Rate::Hertz256,
-        Rate::Hertz64,
-        Rate::Hertz8,
-    ];
-
-    // As a set-up takes it.
-    pub(crate) fn code(self) -> u8 {
-        match self {
-            Rate::Hertz1024 => 0,
-            Rate::Hertz256 => 1,
-            Rate::Hertz64 => 2,
-            Rate::Hertz8 => 3,
-        }
-    }
-
-    pub(crate) fn per_second(self) -> u16 {
-        match self {
-            Rate::Hertz1024 => 1024,
-            Rate::Hertz256 => 256,
-            Rate::Hertz64 => 64,
-            Rate::Hertz8 => 8,
-        }
-    }
-}
+// The highest one first.
+pub(crate) const RATES: [Rate; 4] = [
+    Rate {
+        code: 0,
+        per_second: 1024,
+    },
+    Rate {
+        code: 1,
+        per_second: 256,
+    },
+    Rate {
+        code: 2,
+        per_second: 64,
+    },
+    Rate {
+        code: 3,
+        per_second: 8,
+    },
+];
 
 // A resistance in tenths of a milliohm.
 #[derive(Clone, Copy)]
@@ -110,7 +101,7 @@ impl Case {
             bus,
             sense,
             cycles: 1,
-            rate: Rate::Hertz1024,
+            rate: RATES[0],
             shunt,
         }
     }

@@ -1,97 +1,72 @@
 //! A check: a figure of the data sheets beside ours, and whether they agree.
 
-use super::case::{Case, Shunt};
-use super::sheet::Sheeted;
-use meter::reading::Reading;
+use super::case::Case;
 use std::{fmt, io};
 
 // What a figure may differ by where a division is not exact, as a part of it: a few of the last bits.
 const TOLERANCE: f64 = 1e-14;
 
+// What a figure is of.
 #[derive(Clone, Copy)]
-pub(crate) enum Figure {
-    Volts(f64),
-    Millivolts(f64),
-    Amperes(f64),
-    Steps(f64),
-    Watts(f64),
-    Millijoules(f64),
+pub(crate) struct Quantity {
+    name: &'static str,
+    unit: &'static str,
+    closeness: Closeness,
 }
 
-impl From<Reading> for Figure {
-    fn from(reading: Reading) -> Figure {
-        match reading {
-            Reading::Volts(value) => Figure::Volts(value),
-            Reading::Millivolts(value) => Figure::Millivolts(value),
-        }
-    }
+// How close ours is to the sheet's.
+#[derive(Clone, Copy)]
+enum Closeness {
+    Exact,
+    // where a division is not exact
+    LastBits,
+    RoundedDown,
 }
 
-impl Figure {
-    // A voltage over a shunt is a current; anything else stays.
-    pub(crate) fn over(self, shunt: Shunt) -> Figure {
-        match self {
-            Figure::Millivolts(value) => Figure::Amperes(value / shunt.milliohms()),
-            other => other,
-        }
-    }
+pub(crate) const BUS_VOLTAGE: Quantity = Quantity {
+    name: "bus voltage",
+    unit: "V",
+    closeness: Closeness::Exact,
+};
 
-    fn name(self) -> &'static str {
-        match self {
-            Figure::Volts(_) => "bus voltage",
-            Figure::Millivolts(_) => "sense voltage",
-            Figure::Amperes(_) => "current",
-            Figure::Steps(_) => "power number",
-            Figure::Watts(_) => "power",
-            Figure::Millijoules(_) => "energy",
-        }
-    }
+pub(crate) const SENSE_VOLTAGE: Quantity = Quantity {
+    name: "sense voltage",
+    unit: "mV",
+    closeness: Closeness::Exact,
+};
 
-    fn unit(self) -> &'static str {
-        match self {
-            Figure::Volts(_) => "V",
-            Figure::Millivolts(_) => "mV",
-            Figure::Amperes(_) => "A",
-            Figure::Steps(_) => "",
-            Figure::Watts(_) => "W",
-            Figure::Millijoules(_) => "mJ",
-        }
-    }
+pub(crate) const CURRENT: Quantity = Quantity {
+    name: "current",
+    unit: "A",
+    closeness: Closeness::LastBits,
+};
 
-    fn value(self) -> f64 {
-        match self {
-            Figure::Volts(value)
-            | Figure::Millivolts(value)
-            | Figure::Amperes(value)
-            | Figure::Steps(value)
-            | Figure::Watts(value)
-            | Figure::Millijoules(value) => value,
-        }
-    }
+pub(crate) const POWER_NUMBER: Quantity = Quantity {
+    name: "power number",
+    unit: "",
+    closeness: Closeness::Exact,
+};
 
-    // All are exact but a current, which may come from a division that is not, and an energy, which we round down.
-    fn agrees(self, ours: Figure) -> bool {
-        match (self, ours) {
-            (Figure::Volts(sheet), Figure::Volts(ours))
-            | (Figure::Millivolts(sheet), Figure::Millivolts(ours))
-            | (Figure::Steps(sheet), Figure::Steps(ours))
-            | (Figure::Watts(sheet), Figure::Watts(ours)) => sheet == ours,
-            (Figure::Amperes(sheet), Figure::Amperes(ours)) => {
-                (sheet - ours).abs() <= TOLERANCE * sheet.abs()
-            }
-            (Figure::Millijoules(sheet), Figure::Millijoules(ours)) => sheet.floor() == ours,
-            _ => false,
-        }
-    }
-}
+pub(crate) const POWER: Quantity = Quantity {
+    name: "power",
+    unit: "W",
+    closeness: Closeness::Exact,
+};
+
+pub(crate) const ENERGY: Quantity = Quantity {
+    name: "energy",
+    unit: "mJ",
+    closeness: Closeness::RoundedDown,
+};
 
 // A line of the table.
 #[derive(Clone, Copy)]
 pub(crate) struct Check {
-    make: &'static str,
-    case: Case,
-    sheet: Figure,
-    ours: Figure,
+    pub(crate) make: &'static str,
+    pub(crate) case: Case,
+    pub(crate) quantity: Quantity,
+    pub(crate) sheet: f64,
+    pub(crate) ours: f64,
 }
 
 // Over the columns of the table.
@@ -99,12 +74,11 @@ pub(crate) const HEAD: &str =
     "make     figure          bus   sense          cycles  rate  mOhm             data sheet                      ours";
 
 impl Check {
-    pub(crate) fn new<M: Sheeted>(case: Case, sheet: Figure, ours: Figure) -> Check {
-        Check {
-            make: M::sheet().make,
-            case,
-            sheet,
-            ours,
+    fn agrees(&self) -> bool {
+        match self.quantity.closeness {
+            Closeness::Exact => self.sheet == self.ours,
+            Closeness::LastBits => (self.sheet - self.ours).abs() <= TOLERANCE * self.sheet.abs(),
+            Closeness::RoundedDown => self.sheet.floor() == self.ours,
         }
     }
 }
@@ -116,7 +90,8 @@ pub(crate) fn verdict(agrees: bool) -> &'static str {
 impl fmt::Display for Check {
     fn fmt<W: fmt::Write>(&self, f: &mut fmt::Formatter<W>) -> fmt::Result {
         let case = &self.case;
-        write!(f, "{}  {:<13} ", self.make, self.sheet.name())?;
+        let Quantity { name, unit, .. } = self.quantity;
+        write!(f, "{}  {name:<13} ", self.make)?;
         write!(
             f,
             "{:>5}  {:>6} {}",
@@ -124,11 +99,11 @@ impl fmt::Display for Check {
             case.sense.value(),
             case.sense.way()
         )?;
-        write!(f, "  {:>6}  {:>4}", case.cycles, case.rate.per_second())?;
+        write!(f, "  {:>6}  {:>4}", case.cycles, case.rate.per_second)?;
         write!(f, "  {:>4}", case.shunt.milliohms())?;
-        write!(f, "  {:>21} {:<2}", self.sheet.value(), self.sheet.unit())?;
-        write!(f, "  {:>21} {:<2}", self.ours.value(), self.ours.unit())?;
-        write!(f, "  {}", verdict(self.sheet.agrees(self.ours)))
+        write!(f, "  {:>21} {unit:<2}", self.sheet)?;
+        write!(f, "  {:>21} {unit:<2}", self.ours)?;
+        write!(f, "  {}", verdict(self.agrees()))
     }
 }
 
@@ -149,13 +124,7 @@ impl Tally {
 
     // Counts a check and prints its line.
     pub(crate) fn show(&mut self, rt: &impl Print, check: Check) -> io::Result<()> {
-        self.count(check.sheet.agrees(check.ours));
+        self.count(check.agrees());
         rt.println(check)
-    }
-}
-
-impl fmt::Display for Tally {
-    fn fmt<W: fmt::Write>(&self, f: &mut fmt::Formatter<W>) -> fmt::Result {
-        write!(f, "{} checks, {} differ", self.checks, self.differing)
     }
 }

@@ -14,48 +14,26 @@ use wire::scripted::Scripted;
 use wire::wire::Wire;
 
 // What the draw, the booking and the bill answer.
-const DRAW: [i64; 1] = [1];
+const DRAW: [i128; 1] = [1];
 
-const ENTRY: [i64; 10] = [1, 0, 1, 0, 0, 0, 50_000_000, 0, 0, 0];
+const ENTRY: [i128; 10] = [1, 0, 1, 0, 0, 0, 50_000_000, 0, 0, 0];
 
-const BILL: [i64; 3] = [58, 1, 0];
+const BILL: [i128; 3] = [58, 1, 0];
 
-// The fields of one answer.
+// What a call answers, after its word.
 #[derive(Clone, Copy)]
-struct Answer<const N: usize> {
+struct Answer<'a> {
     word: &'static str,
-    expected: [i64; N],
-    ours: [i64; N],
+    fields: &'a [i128],
 }
 
-#[derive(Clone, Copy)]
-struct Fields<'a>(&'a [i64]);
-
-impl fmt::Display for Fields<'_> {
+impl fmt::Display for Answer<'_> {
     fn fmt<W: fmt::Write>(&self, f: &mut fmt::Formatter<W>) -> fmt::Result {
-        for field in self.0 {
+        f.write_str(self.word)?;
+        for field in self.fields {
             write!(f, ",{field}")?;
         }
         Ok(())
-    }
-}
-
-impl<const N: usize> Answer<N> {
-    fn agrees(&self) -> bool {
-        self.expected == self.ours
-    }
-
-    // Counts it and prints its line.
-    fn show(&self, rt: &impl Print, tally: &mut Tally) -> io::Result<()> {
-        tally.count(self.agrees());
-        println!(rt;
-            "listing  {}{}  ours {}{}  {}",
-            self.word,
-            Fields(&self.expected),
-            self.word,
-            Fields(&self.ours),
-            check::verdict(self.agrees())
-        )
     }
 }
 
@@ -65,25 +43,31 @@ pub(crate) fn check(rt: &impl Print, tally: &mut Tally) -> anyhow::Result<()> {
     let followed = follow(&mut desk);
     let _ = desk.end();
     let (draw, entry, bill) = followed.map_err(bench::refused)?;
-    let drawn = Answer {
-        word: "draw",
-        expected: DRAW,
-        ours: [i64::from(draw)],
-    };
-    drawn.show(rt, tally)?;
-    let booked = Answer {
-        word: "book",
-        expected: ENTRY,
-        ours: entry_fields(&entry),
-    };
-    booked.show(rt, tally)?;
-    let billed = Answer {
-        word: "bill",
-        expected: BILL,
-        ours: bill_fields(&bill).map_err(bench::refused)?,
-    };
-    billed.show(rt, tally)?;
+    show(rt, tally, "draw", &DRAW, &[i128::from(draw)])?;
+    show(rt, tally, "book", &ENTRY, &entry_fields(&entry))?;
+    show(rt, tally, "bill", &BILL, &bill_fields(&bill))?;
     Ok(())
+}
+
+// Counts an answer and prints its line.
+fn show(
+    rt: &impl Print,
+    tally: &mut Tally,
+    word: &'static str,
+    expected: &[i128],
+    ours: &[i128],
+) -> io::Result<()> {
+    let agrees = expected == ours;
+    tally.count(agrees);
+    println!(rt;
+        "listing  {}  ours {}  {}",
+        Answer {
+            word,
+            fields: expected
+        },
+        Answer { word, fields: ours },
+        check::verdict(agrees)
+    )
 }
 
 // The set-up comes in force with the draw, so the entry has the settings before it.
@@ -100,26 +84,22 @@ fn follow<W: Wire>(desk: &mut Desk<W>) -> Result<(u32, Entry, Bill), Refusal> {
     Ok((draw, entry, desk.bill(1, 100)?))
 }
 
-fn entry_fields(entry: &Entry) -> [i64; 10] {
+fn entry_fields(entry: &Entry) -> [i128; 10] {
     let [first, second, third, fourth] = entry.sums;
     [
-        i64::from(entry.draw),
-        i64::from(entry.spoilt),
-        i64::from(entry.count),
-        i64::from(entry.rate),
-        i64::from(entry.off),
-        i64::from(entry.two_way),
-        first,
-        second,
-        third,
-        fourth,
+        i128::from(entry.draw),
+        i128::from(entry.spoilt),
+        i128::from(entry.count),
+        i128::from(entry.rate),
+        i128::from(entry.off),
+        i128::from(entry.two_way),
+        i128::from(first),
+        i128::from(second),
+        i128::from(third),
+        i128::from(fourth),
     ]
 }
 
-fn bill_fields(bill: &Bill) -> Result<[i64; 3], Refusal> {
-    Ok([
-        i64::try_from(bill.energy)?,
-        i64::try_from(bill.billed)?,
-        i64::try_from(bill.spoilt)?,
-    ])
+fn bill_fields(bill: &Bill) -> [i128; 3] {
+    [bill.energy, bill.billed as i128, bill.spoilt as i128]
 }

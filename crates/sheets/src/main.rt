@@ -9,8 +9,8 @@ mod listing;
 mod sheet;
 mod vectors;
 
-use case::{Case, Rate, Sense, Shunt};
-use check::{Check, Figure, Tally};
+use case::{Case, RATES, Sense, Shunt};
+use check::{Check, Tally};
 use makes::pac193x::Pac193x;
 use makes::pac194x::Pac194x;
 use sheet::Sheeted;
@@ -22,7 +22,7 @@ fn main(rt: HostRuntime) -> anyhow::Result<()> {
     check_make::<Pac193x>(&rt, &mut tally)?;
     check_make::<Pac194x>(&rt, &mut tally)?;
     listing::check(&rt, &mut tally)?;
-    println!(rt; "{tally}")?;
+    println!(rt; "{} checks, {} differ", tally.checks, tally.differing)?;
     anyhow::ensure!(tally.differing == 0, "figures differ");
     Ok(())
 }
@@ -35,7 +35,7 @@ fn check_make<M: Sheeted>(rt: &impl Print, tally: &mut Tally) -> anyhow::Result<
         check_power::<M>(rt, tally, bus, sense)?;
     }
     for (bus, sense, cycles, shunt) in ENERGIES {
-        for rate in Rate::ALL {
+        for rate in RATES {
             check_energy::<M>(
                 rt,
                 tally,
@@ -59,18 +59,33 @@ fn check_looks<M: Sheeted>(
     bus: u16,
     sense: Sense,
 ) -> anyhow::Result<()> {
-    let sheet = M::sheet();
+    let sheet = M::SHEET;
     let case = Case::single(bus, sense, Shunt::TEN_MILLIOHMS);
     let shown = bench::measure::<M>(&case)?;
-    let bus_voltage = Figure::Volts(sheet.bus_voltage(bus));
-    tally.show(rt, Check::new::<M>(case, bus_voltage, shown.bus.into()))?;
-    let sense_voltage = Figure::Millivolts(sheet.sense_voltage(sense));
-    tally.show(rt, Check::new::<M>(case, sense_voltage, shown.sense.into()))?;
+    let check = Check {
+        make: sheet.make,
+        case,
+        quantity: check::BUS_VOLTAGE,
+        sheet: sheet.bus_voltage(bus),
+        ours: shown.bus,
+    };
+    tally.show(rt, check)?;
+    let voltage = Check {
+        quantity: check::SENSE_VOLTAGE,
+        sheet: sheet.sense_voltage(sense),
+        ours: shown.sense,
+        ..check
+    };
+    tally.show(rt, voltage)?;
     for shunt in [Shunt::TEN_MILLIOHMS, Shunt::THREE_TENTHS] {
-        let case = Case { shunt, ..case };
-        let current = Figure::Amperes(sheet.current(sense, shunt));
-        let ours = Figure::from(shown.sense).over(shunt);
-        tally.show(rt, Check::new::<M>(case, current, ours))?;
+        let current = Check {
+            case: Case { shunt, ..case },
+            quantity: check::CURRENT,
+            sheet: sheet.current(sense, shunt),
+            ours: shown.sense / shunt.milliohms(),
+            ..check
+        };
+        tally.show(rt, current)?;
     }
     Ok(())
 }
@@ -82,21 +97,36 @@ fn check_power<M: Sheeted>(
     bus: u16,
     sense: Sense,
 ) -> anyhow::Result<()> {
-    let sheet = M::sheet();
+    let sheet = M::SHEET;
     let case = Case::single(bus, sense, Shunt::TEN_MILLIOHMS);
     let number = sheet.in_register(sense, bench::measure::<M>(&case)?.power);
-    let product = Figure::Steps(sheet.power_number(&case));
-    tally.show(rt, Check::new::<M>(case, product, Figure::Steps(number)))?;
-    let power = Figure::Watts(sheet.power(&case));
-    let ours = Figure::Watts(sheet.power_of(number, &case));
-    tally.show(rt, Check::new::<M>(case, power, ours))?;
+    let product = Check {
+        make: sheet.make,
+        case,
+        quantity: check::POWER_NUMBER,
+        sheet: sheet.power_number(&case),
+        ours: number,
+    };
+    tally.show(rt, product)?;
+    let power = Check {
+        quantity: check::POWER,
+        sheet: sheet.power(&case),
+        ours: sheet.power_of(number, &case),
+        ..product
+    };
+    tally.show(rt, power)?;
     Ok(())
 }
 
 // The bill.
 fn check_energy<M: Sheeted>(rt: &impl Print, tally: &mut Tally, case: Case) -> anyhow::Result<()> {
-    let energy = Figure::Millijoules(M::sheet().energy(&case));
-    let ours = Figure::Millijoules(bench::measure::<M>(&case)?.energy);
-    tally.show(rt, Check::new::<M>(case, energy, ours))?;
+    let energy = Check {
+        make: M::SHEET.make,
+        case,
+        quantity: check::ENERGY,
+        sheet: M::SHEET.energy(&case),
+        ours: bench::measure::<M>(&case)?.energy,
+    };
+    tally.show(rt, energy)?;
     Ok(())
 }

@@ -35,37 +35,33 @@ pub(crate) struct DataSheet {
 
 // A make that there is a data sheet of.
 pub(crate) trait Sheeted: Make + Drop {
-    fn sheet() -> DataSheet;
+    const SHEET: DataSheet;
 }
 
+// 2^28 and 2^27, and 28 bits of 32.
 impl Sheeted for Pac193x {
-    // 2^28 and 2^27, and 28 bits of 32.
-    fn sheet() -> DataSheet {
-        DataSheet {
-            make: "PAC193X",
-            bus_scale: 32.0,
-            of_powers: Denominator {
-                one_way: 268435456.0,
-                two_way: 134217728.0,
-            },
-            register_step: 16.0,
-        }
-    }
+    const SHEET: DataSheet = DataSheet {
+        make: "PAC193X",
+        bus_scale: 32.0,
+        of_powers: Denominator {
+            one_way: 268435456.0,
+            two_way: 134217728.0,
+        },
+        register_step: 16.0,
+    };
 }
 
+// 2^30 and 2^29, and 30 bits of 32.
 impl Sheeted for Pac194x {
-    // 2^30 and 2^29, and 30 bits of 32.
-    fn sheet() -> DataSheet {
-        DataSheet {
-            make: "PAC194X",
-            bus_scale: 9.0,
-            of_powers: Denominator {
-                one_way: 1073741824.0,
-                two_way: 536870912.0,
-            },
-            register_step: 4.0,
-        }
-    }
+    const SHEET: DataSheet = DataSheet {
+        make: "PAC194X",
+        bus_scale: 9.0,
+        of_powers: Denominator {
+            one_way: 1073741824.0,
+            two_way: 536870912.0,
+        },
+        register_step: 4.0,
+    };
 }
 
 impl Denominator {
@@ -133,7 +129,7 @@ impl DataSheet {
     pub(crate) fn energy(self, case: &Case) -> f64 {
         let accumulated = f64::from(case.cycles) * self.power_number(case);
         let joules = accumulated / self.of_powers.at(case.sense)
-            * (self.full_scale_power(case.shunt) / f64::from(case.rate.per_second()));
+            * (self.full_scale_power(case.shunt) / f64::from(case.rate.per_second));
         joules * 1000.0
     }
 }
