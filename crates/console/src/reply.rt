@@ -12,8 +12,8 @@ use std::fmt;
 // What a read of some length brought: the first bytes of these.
 #[derive(Clone, Copy)]
 pub(crate) struct Bytes {
-    pub bytes: [u8; LONGEST_READ],
-    pub length: usize,
+    pub(crate) bytes: [u8; LONGEST_READ],
+    pub(crate) length: usize,
 }
 
 impl Bytes {
@@ -25,12 +25,12 @@ impl Bytes {
 // How a meter stands.
 #[derive(Clone, Copy)]
 pub(crate) struct State {
-    pub condition: Condition,
+    pub(crate) condition: Condition,
     // the draw number of the slip in hand
-    pub slip: Option<u32>,
-    pub mark: bool,
-    pub last: u32,
-    pub write_offs: u32,
+    pub(crate) slip: Option<u32>,
+    pub(crate) mark: bool,
+    pub(crate) last: u32,
+    pub(crate) write_offs: u32,
 }
 
 // What a command that was taken answers.
@@ -50,8 +50,8 @@ pub(crate) enum Answer {
 
 #[derive(Drop)]
 pub(crate) struct Reply {
-    pub word: &'static str,
-    pub outcome: Result<Answer, Refusal>,
+    pub(crate) word: &'static str,
+    pub(crate) outcome: Result<Answer, Refusal>,
 }
 
 impl Reply {

@@ -17,7 +17,7 @@ use Rattle.chip.specs.declared.refusal.Refusal.{Refusal}
 use Rattle.chip.specs.declared.state.Codes.{Codes}
 use Rattle.chip.specs.declared.state.State.{State}
 use Rattle.crew.proofs.Histories.{stands_before}
-use Rattle.crew.specs.Obeyed.{IfBytes, Obeyed, bytes}
+use Rattle.crew.specs.Obeyed.{IfBytes, Obeyed, all_bytes}
 use Rattle.crew.specs.Runs.{GoesOn, HasRoom, LedBy, OnRun}
 use Rattle.crew.specs.declared.reply.Shown.{Shown}
 use Rattle.crew.specs.declared.request.Request.{Request}
@@ -146,9 +146,9 @@ module _ (m : Datasheet) {W : Type 0} (chip_of : W → State) where
     -- with bytes the call, and else nothing
     if_bytes : (ns : List ℕ) (call : Type 0) (d : Standing W) (r : Result Shown Refusal) (d' : Standing W) → HasRoom d → IfBytes ns call d r d'
         → (call → Onward d d') → Onward d d'
-    if_bytes ns call d r d' o i on = either (bytes ns) refl
+    if_bytes ns call d r d' o i on = either (all_bytes ns) refl
       where
-        either : (x : Bool) → bytes ns ≡ x → Onward d d'
+        either : (x : Bool) → all_bytes ns ≡ x → Onward d d'
         either true is = on (i.within is)
         either false is = stays d d' (i.beyond is).1 o
 

@@ -74,10 +74,11 @@ abbrev pub in_words : {A : Type 0} → ((word fields : List ℕ) → Option A) �
 in_words f None = None
 in_words f (Some l) = f l.word l.fields
 
--- what the bytes of a line ask
+-- which chip the bytes of a line name
 abbrev pub kind_asked : List ℕ → Option Kind
 kind_asked bs = in_words kind_of (said bs)
 
+-- what the bytes of a line ask
 abbrev pub asked : List ℕ → Option Request
 asked bs = in_words request_of (said bs)
 

@@ -41,9 +41,10 @@ pub record Made {A : Type 0} (shows : A → Shown) (call : Result A Refusal → 
   pub made : call result
   pub tells : r ≡ told shows result
 
-abbrev pub bytes : List ℕ → Bool
-bytes [] = true
-bytes (n ∷ ns) = nat_lt n 256 && bytes ns
+-- every number is below 256
+abbrev pub all_bytes : List ℕ → Bool
+all_bytes [] = true
+all_bytes (n ∷ ns) = nat_lt n 256 && all_bytes ns
 
 module _ {W : Type 0} where
   -- refused, and all stays
@@ -52,11 +53,11 @@ module _ {W : Type 0} where
 
   -- with numbers that are bytes; one above a byte is outside its limits
   pub record IfBytes (ns : List ℕ) (call : Type 0) (d : Standing W) (r : Result Shown Refusal) (d' : Standing W) : Type 0 where
-    pub within : bytes ns ≡ true → call
-    pub beyond : bytes ns ≡ false → Refused Limits d r d'
+    pub within : all_bytes ns ≡ true → call
+    pub beyond : all_bytes ns ≡ false → Refused Limits d r d'
 
   module _ (m : Datasheet) (chip_of : W → State) (goes : Goes W) where
-    -- a bill leaves all as it is
+    -- the answer is the meter's bill of the book, and all stays as it is
     pub record BillMade (ch u : ℕ) (d : Standing W) (r : Result figures.Bill Refusal) (d' : Standing W) : Type 0 where
       pub bill : MadeBill m (chip_below chip_of) (goes_scripted goes) ch u d.meter d.wire d.book r
       pub same : d' ≡ d

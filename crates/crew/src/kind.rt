@@ -4,8 +4,8 @@ ghost use Rattle.crew.specs.Asks.{kind_asked, kind_of, or_unreadable};
 ghost use Rattle.crew.specs.Obeyed.{opened};
 ghost use Rattle.lines.specs.Numbers.{items};
 
-use super::reply::Reply;
-use super::word::Word;
+use crate::reply::Reply;
+use crate::word::Word;
 use chip::refusal::Refusal;
 use lines::line;
 use lines::line::Line;

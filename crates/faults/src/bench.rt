@@ -70,9 +70,11 @@ pub(crate) fn run<C: Known>(scenario: Scenario, script: Script) -> anyhow::Resul
         answered,
     } = bench;
     let (mut wire, _book) = desk.end();
+    // A run that ended early has outcomes left, which would fail the read below.
+    let played = played?;
     let closing = Closing {
         running: running(&mut wire, C::KIND)?,
-        ..played?
+        ..played
     };
     let expected = tally.closing(&log);
     ensure!(closing == expected, "{closing:?} is to be {expected:?}");

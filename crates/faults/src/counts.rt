@@ -20,7 +20,7 @@ pub(crate) const LOOKS: [usize; 2] = [9, 10];
 
 const COLUMNS: usize = 11;
 
-// A line of the table.
+// A line of the table, as one row of numbers: a sum or a print of it is one loop.
 #[derive(Clone, Copy, Default)]
 pub(crate) struct Counts([u32; COLUMNS]);
 

@@ -7,8 +7,8 @@ use chip::state::Codes;
 // How many cycles have a power of two of their own, on a two-way channel too.
 pub(crate) const MOST_CYCLES: u8 = 26;
 
-// A bus code's upper 14 bits; so channel 1 has a product of 2^13 by the bus alone.
-const BUS_BITS: u8 = 13;
+// The largest power of two that one factor of channel 1 gives: a bus has 14 bits in a product.
+const MOST_BY_ONE: u8 = 13;
 
 // A cycle by its number, from 0 on.
 #[derive(Clone, Copy)]
@@ -25,8 +25,8 @@ impl Cycle {
     // Channel 1 has 2^n in cycle n. Channel 3 has negative codes, and the others are only unlike. Channels count from 0.
     fn factors(self, channel: usize) -> Factors {
         let number = self.0;
-        let by_bus = number.min(BUS_BITS);
-        let by_sense = number.saturating_sub(BUS_BITS).min(BUS_BITS);
+        let by_bus = number.min(MOST_BY_ONE);
+        let by_sense = number.saturating_sub(MOST_BY_ONE).min(MOST_BY_ONE);
         match channel {
             0 => Factors {
                 bus: 1 << by_bus,

@@ -7,7 +7,7 @@ use makes::pac194x::Pac194x;
 #[derive(Clone, Copy)]
 pub(crate) struct Kind {
     pub(crate) name: &'static str,
-    // how many sense codes one step of a product is: its lowest two bits are not used by the one
+    // how many sense codes one step of a product is: the PAC193X does not use its lowest two bits
     pub(crate) sense_step: i16,
     // how many such steps a negative sense is larger by where it is read one-way
     pub(crate) sense_span: i32,

@@ -18,6 +18,7 @@ impl Stretch {
     // Those whose products are in a sum of channel 1: each of its bits is a cycle. Where a cycle between them is missing, their sum is another one.
     fn in_sum(sum: i64) -> Stretch {
         let bits = sum.cast_unsigned();
+        // By `min` the prover knows that a count of bits fits a byte.
         let above = bits.leading_zeros().min(64);
         Stretch {
             from: bits.trailing_zeros().min(64) as u8,
@@ -110,7 +111,7 @@ impl Tally {
         }
     }
 
-    // How the run is to end then. Cycles that have no entry are running.
+    // How the run is to end then. Cycles that have no entry are running: on channel 1, which is never off and has no negative sense, so any settings do.
     pub(crate) fn closing(&self, log: &Log) -> Closing {
         let running = Stretch {
             from: self.end,

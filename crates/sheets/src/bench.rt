@@ -1,7 +1,7 @@
 //! A meter at a desk, and what it shows of a case.
 
 use super::case::Case;
-use anyhow::{anyhow, bail};
+use anyhow::{Context, anyhow, bail};
 use chip::entry::Entry;
 use chip::make::Make;
 use chip::refusal::Refusal;
@@ -35,12 +35,15 @@ pub(crate) fn measure<M: Make + Drop>(case: &Case) -> anyhow::Result<Shown> {
     let (Reading::Volts(bus), Reading::Millivolts(sense), energy) = metered.map_err(refused)? else {
         bail!("a look answers another quantity");
     };
+    let energy = i32::try_from(energy)
+        .ok()
+        .context("a bill is too large here")?;
     let mut power = [0; 4];
     wire.read(POWER, &mut power).map_err(refused)?;
     Ok(Shown {
         bus,
         sense,
-        energy,
+        energy: f64::from(energy),
         power: u32::from_be_bytes(power),
     })
 }
@@ -50,7 +53,7 @@ pub(crate) fn refused(refusal: Refusal) -> anyhow::Error {
 }
 
 // Its settings come in force with a first draw. Then its cycles come, both quantities are looked at, and a second draw is booked and billed.
-fn run<W: Wire>(desk: &mut Desk<W>, case: &Case) -> Result<(Reading, Reading, f64), Refusal> {
+fn run<W: Wire>(desk: &mut Desk<W>, case: &Case) -> Result<(Reading, Reading, i128), Refusal> {
     desk.set_up(case.rate.code, 0, case.sense.mask())?;
     desk.draw()?;
     desk.book()?;
@@ -62,5 +65,5 @@ fn run<W: Wire>(desk: &mut Desk<W>, case: &Case) -> Result<(Reading, Reading, f6
     desk.draw()?;
     desk.book()?;
     let bill = desk.bill(1, case.shunt.0)?;
-    Ok((bus, sense, f64::from(i32::try_from(bill.energy)?)))
+    Ok((bus, sense, bill.energy))
 }

@@ -75,7 +75,7 @@ fn full_of<M: Make>(rt: &impl Abort, entry: Entry, sum: i64, least: i128, most: 
 }
 
 #[test]
-fn the_largest_books(rt: HostRuntime) {
+fn the_largest_books_of_a_193x(rt: HostRuntime) {
     for (entry, sum, least, most) in [
         (
             ONE_WAY,
@@ -98,6 +98,10 @@ fn the_largest_books(rt: HostRuntime) {
     ] {
         full_of::<Pac193x>(&rt, entry, sum, least, most);
     }
+}
+
+#[test]
+fn the_largest_books_of_a_194x(rt: HostRuntime) {
     for (entry, sum, least, most) in [
         (
             ONE_WAY,

@@ -1,4 +1,4 @@
-//! Entries to make others from, and the one comparison of a bill with what is known of it.
+//! Entries to make others from, and bills that are compared with what is known of them.
 use crate::checks::same;
 use book::bill::Bill;
 use book::book::Book;

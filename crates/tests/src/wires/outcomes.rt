@@ -54,7 +54,7 @@ fn reads(rt: HostRuntime) {
     }
 }
 
-// A write, a send that passes its byte on to the image, and a send that the chip refuses.
+// A write, a send that puts its byte in force, and a send that the chip refuses.
 #[test]
 fn writes_and_sends(rt: HostRuntime) {
     for (number, outcome) in OUTCOMES {
