@@ -1,5 +1,5 @@
-//! Places each outcome at each of the first transactions of whole runs, and checks the account of every run against the cycles that came. It prints
-//! a line for each kind of chip and scenario, and ends with an error at the first run whose account differs.
+//! Places each outcome at each of eight transactions in a row, from some step of a run on, and checks the account of every run against the cycles that
+//! came. It prints a line for each kind of chip and scenario, and ends with an error at the first run whose account differs.
 #![tactic(auto)]
 
 mod bench;
