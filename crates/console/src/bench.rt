@@ -11,19 +11,19 @@ pub(crate) trait Bench {
     fn pass_cycle(&mut self, codes: [Codes; 4]);
 
     fn add_outcome(&mut self, outcome: u8) -> Result<(), Refusal>;
-}
 
-pub(crate) fn obey<B: Bench>(bench: &mut B, command: BenchCommand) -> Result<(), Refusal> {
-    match command {
-        BenchCommand::Cycle(codes) => bench.pass_cycle(codes),
-        BenchCommand::Cycles(count, codes) => {
-            for _ in 0..count {
-                bench.pass_cycle(codes);
+    fn obey_bench(&mut self, command: BenchCommand) -> Result<(), Refusal> {
+        match command {
+            BenchCommand::Cycle(codes) => self.pass_cycle(codes),
+            BenchCommand::Cycles(count, codes) => {
+                for _ in 0..count {
+                    self.pass_cycle(codes);
+                }
             }
+            BenchCommand::Fault(outcome) => self.add_outcome(u8::try_from(outcome)?)?,
         }
-        BenchCommand::Fault(outcome) => bench.add_outcome(u8::try_from(outcome)?)?,
+        Ok(())
     }
-    Ok(())
 }
 
 impl<W: Wire> Bench for Scripted<W> {

@@ -108,12 +108,8 @@ fn channels(fields: &[u16]) -> Result<[Codes; 4], Refusal>
     let [v1, s1, v2, s2, v3, s3, v4, s4] = *fields else {
         return Err(Refusal::Unreadable);
     };
-    Ok([
-        Codes { bus: v1, sense: s1 },
-        Codes { bus: v2, sense: s2 },
-        Codes { bus: v3, sense: s3 },
-        Codes { bus: v4, sense: s4 },
-    ])
+    let pair = |bus, sense| Codes { bus, sense };
+    Ok([pair(v1, s1), pair(v2, s2), pair(v3, s3), pair(v4, s4)])
 }
 
 // The word that names a command, at the head of its line and of the reply.

@@ -2,7 +2,7 @@
 ghost use Rattle.std.specs.Prelude.{◌≤◌, length};
 ghost use Rattle.lines.specs.Cuts.{lines};
 
-use super::bench;
+use super::bench::Bench;
 use super::command::DeskCommand;
 use super::reply::{Answer, Reply, State};
 use chip::entry::Entry;
@@ -62,7 +62,7 @@ fn answer<W: Wire>(desk: &mut Desk<W>, line: &[u8]) -> Result<Reply, Refusal> {
 fn obey<W: Wire>(desk: &mut Desk<W>, command: DeskCommand) -> Result<Answer, Refusal> {
     Ok(match command {
         DeskCommand::Bench(command) => {
-            bench::obey(desk, command)?;
+            desk.obey_bench(command)?;
             Answer::Nothing
         }
         DeskCommand::SetUp { rate, off, two_way } => {

@@ -1,9 +1,12 @@
 //! Raw lines, on a chip behind a scripted wire.
 ghost use Rattle.std.specs.Prelude.{◌≡◌, IfOk};
+ghost use Rattle.arrayvec.specs.ArrayVec.{array_vec_len};
 
+use super::bench::Bench;
 use super::command::RawCommand;
+use super::metered;
 use super::reply::{Answer, Bytes, Reply};
-use super::{bench, metered};
+use arrayvec::ArrayVec;
 use chip::chip::LONGEST_READ;
 use chip::refusal::Refusal;
 use lines::input::Input;
@@ -40,7 +43,7 @@ fn answer<W: Wire>(wire: &mut Scripted<W>, line: &[u8]) -> Result<Reply, Refusal
 
 fn obey<W: Wire>(wire: &mut Scripted<W>, command: RawCommand) -> Result<Answer, Refusal> {
     match command {
-        RawCommand::Bench(command) => bench::obey(wire, command)?,
+        RawCommand::Bench(command) => wire.obey_bench(command)?,
         RawCommand::Send(address) => wire.send(u8::try_from(address)?)?,
         RawCommand::Write { address, values } => write(wire, address, values)?,
         RawCommand::Read { address, length } => {
@@ -54,21 +57,24 @@ fn obey<W: Wire>(wire: &mut Scripted<W>, command: RawCommand) -> Result<Answer, 
 // No register takes more than eight bytes.
 fn write<W: Wire>(wire: &mut Scripted<W>, address: u16, values: &[u16]) -> Result<(), Refusal> {
     let address = u8::try_from(address)?;
-    let mut bytes = [0; 8];
-    let written = bytes.get_mut(..values.len()).ok_or(Refusal::Limits)?;
-    for (byte, value) in written.iter_mut().zip(values) {
-        *byte = u8::try_from(*value)?;
+    let mut bytes = ArrayVec::<u8, 8>::new();
+    for value in values {
+        let byte = u8::try_from(*value)?;
+        bytes.try_push(byte).map_err(|_| Refusal::Limits)?;
     }
-    wire.write(address, written)
+    wire.write(address, bytes.as_slice())
 }
 
 fn read<W: Wire>(wire: &mut Scripted<W>, address: u16, length: u16) -> Result<Bytes, Refusal>
-    ensures { IfOk result (λ read. read.length ≡ length) }
+    ensures { IfOk result (λ bytes. array_vec_len bytes ≡ length) }
 {
     let address = u8::try_from(address)?;
     let length = usize::from(length);
-    let mut bytes = [0; LONGEST_READ];
-    let wanted = bytes.get_mut(..length).ok_or(Refusal::Limits)?;
-    wire.read(address, wanted)?;
-    Ok(Bytes { bytes, length })
+    if length > LONGEST_READ {
+        return Err(Refusal::Limits);
+    }
+    let mut bytes = Bytes::from([0; LONGEST_READ]);
+    bytes.truncate(length);
+    wire.read(address, bytes.as_mut_slice())?;
+    Ok(bytes)
 }

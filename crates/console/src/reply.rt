@@ -1,6 +1,7 @@
 //! What the console prints for a line.
 ghost use Rattle.std.specs.Prelude.{◌≡◌, Err};
 
+use arrayvec::ArrayVec;
 use book::bill::Bill;
 use chip::chip::LONGEST_READ;
 use chip::entry::Entry;
@@ -9,18 +10,8 @@ use meter::condition::Condition;
 use meter::reading::Reading;
 use std::fmt;
 
-// What a read of some length brought: the first bytes of these.
-#[derive(Clone, Copy)]
-pub(crate) struct Bytes {
-    pub(crate) bytes: [u8; LONGEST_READ],
-    pub(crate) length: usize,
-}
-
-impl Bytes {
-    fn read(&self) -> &[u8] {
-        self.bytes.get(..self.length).unwrap_or(&[])
-    }
-}
+// What a read brought.
+pub(crate) type Bytes = ArrayVec<u8, LONGEST_READ>;
 
 // How a meter stands.
 #[derive(Clone, Copy)]
@@ -111,8 +102,7 @@ fn write_entry<W: fmt::Write>(f: &mut fmt::Formatter<W>, entry: &Entry) -> fmt::
         two_way,
         sums,
     } = *entry;
-    write!(f, ",{draw},{spoilt},{count}")?;
-    write!(f, ",{rate},{off},{two_way}")?;
+    write!(f, ",{draw},{spoilt},{count},{rate},{off},{two_way}")?;
     for sum in sums {
         write!(f, ",{sum}")?;
     }
@@ -124,7 +114,7 @@ impl fmt::Display for Answer {
     fn fmt<W: fmt::Write>(&self, f: &mut fmt::Formatter<W>) -> fmt::Result {
         match self {
             Answer::Nothing | Answer::Handover => Ok(()),
-            Answer::Bytes(bytes) => write_bytes(f, bytes.read()),
+            Answer::Bytes(bytes) => write_bytes(f, bytes.as_slice()),
             Answer::Scratch(bytes) => write_bytes(f, bytes),
             Answer::Draw(draw) => write!(f, ",{draw}"),
             Answer::Entry(entry) => write_entry(f, entry),

@@ -1,10 +1,12 @@
 -- What each line asks.
-use Rattle.std.specs.Prelude.{ℕ, ◌+◌, ◌*◌, cond, ◌&&◌, List, [], ◌∷◌, length, Some, None, Ok, Err, Option, Result, ◌==◌, slice_index, codes}
+use Rattle.std.specs.Prelude.{ℕ, ◌+◌, ◌*◌, cond, ◌&&◌, List, [], ◌∷◌, length, Some, None, Ok, Err, Option, Result, ◌==◌, slice_index}
+use Rattle.std.specs.List.{find}
 use Rattle.std.specs.Option.{option_and_then}
 use Rattle.std.specs.Str.{bytes_eq}
 use Rattle.chip.specs.declared.refusal.Refusal.{Refusal}
 use Rattle.chip.specs.declared.refusal.Refusal.TheVariants.{Unreadable}
 use Rattle.chip.specs.declared.state.Codes.{Codes}
+use Rattle.crew.specs.Prints.{text_of}
 use Rattle.crew.specs.declared.kind.Kind.{Kind}
 use Rattle.crew.specs.declared.kind.Kind.TheVariants.{Pac193x, Pac194x}
 use Rattle.crew.specs.declared.request.Request.{Request}
@@ -17,18 +19,13 @@ use Rattle.lines.specs.Lines.{Said, said}
 abbrev pub codes_at : List ℕ → ℕ → Codes
 codes_at ns i = record { bus = slice_index ns (2 * i); sense = slice_index ns (2 * i + 1) }
 
--- the word that a line begins with, unless it is none of these
+-- the words that a line may begin with
+abbrev pub in_lines : List Word
+in_lines = word.Kind ∷ word.Cycle ∷ word.SetUp ∷ word.Draw ∷ word.Book ∷ word.WriteOff ∷ word.Bill ∷ word.Fault ∷ []
+
+-- the one that a line begins with, unless it is none of these
 abbrev pub word_in : List ℕ → Option Word
-word_in w =
-    cond (bytes_eq w (codes "kind")) (Some word.Kind)
-    (cond (bytes_eq w (codes "cycle")) (Some word.Cycle)
-    (cond (bytes_eq w (codes "setup")) (Some word.SetUp)
-    (cond (bytes_eq w (codes "draw")) (Some word.Draw)
-    (cond (bytes_eq w (codes "book")) (Some word.Book)
-    (cond (bytes_eq w (codes "writeoff")) (Some word.WriteOff)
-    (cond (bytes_eq w (codes "bill")) (Some word.Bill)
-    (cond (bytes_eq w (codes "fault")) (Some word.Fault)
-    None)))))))
+word_in w = find (λ x. bytes_eq w (text_of x)) in_lines
 
 -- the word of the lines that ask something
 abbrev pub word_of : Request → Word

@@ -5,14 +5,14 @@ use Rattle.chip.specs.Datasheet.{Datasheet}
 use Rattle.chip.specs.declared.refusal.Refusal.{Refusal}
 use Rattle.chip.specs.declared.refusal.Refusal.TheVariants.{Limits, Unreadable}
 use Rattle.chip.specs.declared.state.State.{State}
-use Rattle.crew.specs.declared.kind.Kind.{Kind}
 use Rattle.crew.specs.Asks.{word_of}
+use Rattle.crew.specs.declared.kind.Kind.{Kind}
 use Rattle.crew.specs.declared.reply.Reply.{Reply}
 use Rattle.crew.specs.declared.reply.Shown.{Shown}
 use Rattle.crew.specs.declared.reply.Shown.TheVariants as shown
-use Rattle.crew.specs.declared.word.Word.TheVariants as word
 use Rattle.crew.specs.declared.request.Request.{Request}
 use Rattle.crew.specs.declared.request.Request.TheVariants.{Cycle, SetUp, Draw, Book, WriteOff, Bill, Fault}
+use Rattle.crew.specs.declared.word.Word.TheVariants as word
 use Rattle.desk.specs.Promises.{BookMade, CycleCame, DrawMade, OutcomeAdded, SetUpMade, WriteOffMade, chip_below, goes_scripted}
 use Rattle.desk.specs.Standing.{Standing}
 use Rattle.meter.specs.Promises.{MadeBill}

@@ -11,6 +11,7 @@ use Rattle.crew.specs.declared.reply.Shown.TheVariants as shown
 use Rattle.crew.specs.declared.word.Word.{Word}
 use Rattle.crew.specs.declared.word.Word.TheVariants as word
 
+-- how each word is written, in a line and in its reply
 abbrev pub text_of : Word → List ℕ
 text_of word.Line = codes "line"
 text_of word.Kind = codes "kind"

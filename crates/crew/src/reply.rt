@@ -3,7 +3,7 @@ ghost use Rattle.std.specs.Prelude.{Some};
 ghost use Rattle.std.specs.Fmt.{DisplaysOnOk};
 ghost use Rattle.crew.specs.Prints.{entry_fields, fields_of, printed, stretch_fields, sum_fields};
 
-use super::word::Word;
+use crate::word::Word;
 use book::bill::Bill;
 use chip::entry::Entry;
 use chip::refusal::Refusal;

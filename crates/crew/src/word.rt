@@ -3,7 +3,7 @@ ghost use Rattle.std.specs.Prelude.{◌≡◌};
 ghost use Rattle.crew.specs.Asks.{word_in, word_of};
 ghost use Rattle.crew.specs.Prints.{text_of};
 
-use super::request::Request;
+use crate::request::Request;
 
 /// A line's word, and a reply's: the line's own, or `line` where it cannot be read.
 #[derive(Clone, Copy, Debug, PartialEq, Eq)]
