@@ -1,11 +1,20 @@
 -- What comes first in a text that is cut at a mark.
-use Rattle.std.proofs.Common.{◌≡◌, ◌≢◌, ℕ, ◌+◌, ◌<◌, List, [], ◌∷◌, ◌++◌, map, length, Some, None, Option, Bor, All, refl, sym, ap, ◌∙◌, arith}
+use Rattle.std.proofs.Common.{◌≡◌, ◌≢◌, ℕ, ◌+◌, ◌<◌, ◌≤◌, ◌⊎◌, List, [], ◌∷◌, ◌++◌, map, length, take, Some, None, Option, Bor, All, refl, sym, ap, ◌∙◌, inl, inr, arith, rules}
+use Rattle.std.proofs.lemmas.List.{take_all}
 use Rattle.std.proofs.lemmas.Bool.{cond-false, ne_eqb}
 use Rattle.std.proofs.lemmas.List.Elements.{All-head, All-tail, All-weaker}
 use Rattle.std.proofs.lemmas.List.Splits.{slice_split_at, slice_split_none}
-use Rattle.std.specs.List.{onto_first}
+use Rattle.std.specs.List.{onto_first, slice_range}
 use Rattle.std.specs.Option.{MatchOption, unwrap_or}
 use Rattle.lines.specs.Cuts.{lines, pieces, pieces_left, placed}
+
+-- the first n bytes of a text, or all of it where there are no more
+pub first_bytes : (n : ℕ) (text : Bor (List ℕ)) (o : Option (Bor (List ℕ)))
+    → MatchOption o ((n < 0) ⊎ (length text.now < n)) (λ x. (0 ≤ n) × (n ≤ length text.now) × (x.now ≡ slice_range text.now 0 n) × (length x.now + 0 ≡ n))
+    → (unwrap_or o text).now ≡ take n text.now
+first_bytes n text None (inl below) = absurd (omega arith)
+first_bytes n text None (inr short) = sym (take_all n text.now (omega arith))
+first_bytes n text (Some x) found = found.2 ∙ search rules
 
 -- a text is a piece, and the mark and the rest if there is a rest
 abbrev Whole : (mark : ℕ) (text piece : List ℕ) → Option (Bor (List ℕ)) → Type 0

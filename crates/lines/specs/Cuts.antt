@@ -1,7 +1,11 @@
 -- A text cut into lines, and a line cut at its commas.
-use Rattle.std.specs.Prelude.{ℕ, ◌+◌, cond, List, [], ◌∷◌, length, Some, None, Option, ◌==◌}
+use Rattle.std.specs.Prelude.{ℕ, ◌+◌, cond, List, [], ◌∷◌, length, take, Some, None, Option, ◌==◌}
 use Rattle.std.specs.List.{onto_first, slice_split}
 use denote.Ref.{Bor}
+
+-- the part of an input that is read: its first 64 KiB
+abbrev pub read_part : List ℕ → List ℕ
+read_part text = take 65536 text
 
 -- the lines of a text: only LF ends one, and the last needs none
 abbrev pub lines : List ℕ → List (List ℕ)

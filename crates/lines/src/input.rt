@@ -1,12 +1,12 @@
 //! A text cut into lines: only LF ends one, and the last needs none.
 ghost use Rattle.std.specs.Prelude.{◌≡◌};
 ghost use Rattle.std.specs.Iterator.{YieldsFirstRef, item_count};
-ghost use Rattle.lines.specs.Cuts.{lines};
+ghost use Rattle.lines.specs.Cuts.{lines, read_part};
 
 use super::mark;
 
-/// A program reads the first 64 KiB of its input.
-pub const LIMIT: u64 = 65536;
+/// Of an input that many bytes are read, and the rest is left: 64 KiB.
+pub const LIMIT: usize = 65536;
 
 /// The lines that are still to come.
 #[derive(Drop)]
@@ -15,19 +15,26 @@ pub struct Input<'a> {
 }
 
 impl<'a> Input<'a> {
+    ghost use Rattle.lines.specs.Inputs.{lines_left};
+
+    /// The lines in the first `LIMIT` bytes of a text. A line that ends beyond them is cut there.
     pub fn new(text: &'a [u8]) -> Input<'a>
-        ensures { result.rest.now ≡ text.now }
+        ensures { lines_left result ≡ lines (read_part text.now) }
     {
-        Input { rest: text }
+        Input {
+            rest: text.get(..LIMIT).unwrap_or(text),
+        }
     }
 }
 
 impl<'a> Iterator for Input<'a> {
+    ghost use Rattle.lines.specs.Inputs.{lines_left};
+
     type Item = &'a [u8];
 
-    ghost next_gives = { YieldsFirstRef (λ s. lines s.rest.now) };
+    ghost next_gives = { YieldsFirstRef lines_left };
 
-    ghost remaining = { item_count (λ s. lines s.rest.now) };
+    ghost remaining = { item_count lines_left };
 
     // The next line, without its newline.
     fn next(&mut self) -> Option<&'a [u8]> {
