@@ -1,4 +1,6 @@
 pub mod Histories
-pub mod Prints
+pub mod Openings
 pub mod Readings
 pub mod Runs
+pub mod Sessions
+pub mod Texts

@@ -22,10 +22,14 @@ use Rattle.wire.specs.Wire.{Goes, Passes}
 abbrev pub unreadable : Reply
 unreadable = record { word = word.Line; outcome = Err Unreadable }
 
+-- what is answered to the line that names a kind
+abbrev pub kind_taken : Reply
+kind_taken = record { word = word.Kind; outcome = Ok shown.Nothing }
+
 -- before there is a post: the line that names a kind is taken and shows nothing, every other is unreadable
 abbrev pub opened : Option Kind → Reply × Option Kind
 opened None = (unreadable, None)
-opened (Some k) = (record { word = word.Kind; outcome = Ok shown.Nothing }, Some k)
+opened (Some k) = (kind_taken, Some k)
 
 -- what the result of a call of the desk tells
 abbrev pub told : {A : Type 0} → (A → Shown) → Result A Refusal → Result Shown Refusal

@@ -61,3 +61,11 @@ outcome_fields (Err e) = field (number_of e)
 
 abbrev pub printed : Reply → List ℕ
 printed r = text_of r.word ++ outcome_fields r.outcome
+
+-- on a line of its own
+abbrev pub printed_line : Reply → List ℕ
+printed_line r = printed r ++ 10 ∷ []
+
+abbrev pub printed_lines : List Reply → List ℕ
+printed_lines [] = []
+printed_lines (p ∷ ps) = printed_line p ++ printed_lines ps

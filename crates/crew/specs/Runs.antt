@@ -1,15 +1,19 @@
 -- The statements about runs, at a desk.
-use Rattle.std.specs.Prelude.{Option, ◌≡◌, ◌≤◌, List, ◌++◌, length}
-use Rattle.account.specs.History.{History, Reached}
+use Rattle.std.specs.Prelude.{◌≡◌, ◌≤◌, List, [], ◌∷◌, ◌++◌, length, Some, Ok, Option, Result}
+use Rattle.account.specs.History.{History, Reached, booked, carried_out, cycle_came, written_off}
 use Rattle.account.specs.Statements.{Statements}
 use Rattle.book.specs.Book.{entries}
 use Rattle.chip.specs.Chip.{fresh_chip}
 use Rattle.chip.specs.Datasheet.{Datasheet}
 use Rattle.chip.specs.declared.entry.Entry.{Entry}
+use Rattle.chip.specs.declared.refusal.Refusal.{Refusal}
 use Rattle.chip.specs.declared.state.State.{State}
 use Rattle.crew.specs.Obeyed.{Answered}
 use Rattle.crew.specs.declared.reply.Reply.{Reply}
+use Rattle.crew.specs.declared.reply.Shown.{Shown}
+use Rattle.crew.specs.declared.reply.Shown.TheVariants as shown
 use Rattle.crew.specs.declared.request.Request.{Request}
+use Rattle.crew.specs.declared.request.Request.TheVariants.{Book, Cycle, WriteOff}
 use Rattle.desk.specs.Promises.{DeskOpened, Ended}
 use Rattle.desk.specs.Standing.{Standing}
 use Rattle.wire.specs.Direct.{DirectGoes, DirectPasses}
@@ -17,6 +21,19 @@ use Rattle.wire.specs.Scripted.{seen, unplayed}
 use Rattle.wire.specs.Wire.{Goes, Passes}
 use Rattle.wire.specs.declared.direct.Direct.{Direct}
 use Rattle.wire.specs.declared.scripted.Scripted.{Scripted}
+
+-- what the crew sees of a history: the cycles, the entries and the write-offs, and not the requests that the chip carried out. The newest stands first
+abbrev pub visible : History → History
+visible [] = []
+visible (carried_out q ∷ h) = visible h
+visible (x ∷ h) = x ∷ visible h
+
+-- what a line adds to that, by what it asks and what comes of it
+abbrev pub line_shows : Option Request → Result Shown Refusal → History
+line_shows (Some (Cycle ks)) r = cycle_came ks ∷ []
+line_shows (Some Book) (Ok (shown.Entry e)) = booked e ∷ []
+line_shows (Some WriteOff) (Ok s) = written_off ∷ []
+line_shows q r = []
 
 -- a book of 64 places, no more filled than there are
 pub record HasRoom {W : Type 0} (d : Standing W) : Type 0 where
@@ -36,9 +53,9 @@ module _ (m : Datasheet) {W : Type 0} (chip_of : W → State) where
     pub history : History
     pub led : LedBy d history
 
-  -- whatever history led to d, one that goes on from it led to d'; the newest stands first
-  pub record GoesOn (d d' : Standing W) : Type 0 where
-    pub on : (h : History) → LedBy d h → (since : History) × LedBy d' (since ++ h)
+  -- whatever history led to d, one that goes on from it led to d', and the crew sees just this more
+  pub record GoesOn (shows : History) (d d' : Standing W) : Type 0 where
+    pub on : (h : History) → LedBy d h → (since : History) × (visible since ≡ shows) × LedBy d' (since ++ h)
 
 -- the chip at a direct wire, and how that takes a request and a cycle
 abbrev pub chip_at : {M : Type 0} → Direct M → State

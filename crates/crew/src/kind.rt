@@ -1,20 +1,35 @@
 //! The line that says which chip there is.
 ghost use Rattle.std.specs.Prelude.{◌≡◌};
+ghost use Rattle.chip.specs.Datasheet.{Datasheet};
 ghost use Rattle.crew.specs.Asks.{kind_asked, kind_of, or_unreadable};
+ghost use Rattle.crew.specs.Kinds.{sheet_of};
 ghost use Rattle.crew.specs.Obeyed.{opened};
 ghost use Rattle.lines.specs.Numbers.{items};
 
 use crate::reply::Reply;
 use crate::word::Word;
+use chip::make::Make;
 use chip::refusal::Refusal;
 use lines::line;
 use lines::line::Line;
+use makes::pac193x::Pac193x;
+use makes::pac194x::Pac194x;
 
 /// The kinds of chip.
 #[derive(Clone, Copy, Debug, PartialEq, Eq)]
 pub enum Kind {
     Pac193x,
     Pac194x,
+}
+
+/// Work for a chip of any make. A line says which make it is to be, and `Kind::choose` does the work with that one.
+pub trait ForMake {
+    type Done;
+
+    ghost done: { Self → Datasheet → Self.Done → Type 0 };
+
+    fn with<M: Make>(self) -> Self::Done
+        ensures { done self M.Make.sheet result };
 }
 
 impl TryFrom<&Line<'_>> for Kind {
@@ -42,6 +57,16 @@ pub fn opening(line: &[u8]) -> (Reply, Option<Kind>)
 }
 
 impl Kind {
+    /// Does some work with the make of this kind.
+    pub fn choose<W: ForMake>(self, work: W) -> W::Done
+        ensures { W.ForMake.done work (sheet_of self) result }
+    {
+        match self {
+            Kind::Pac193x => work.with::<Pac193x>(),
+            Kind::Pac194x => work.with::<Pac194x>(),
+        }
+    }
+
     // The kind that a line names, read from its bytes.
     fn read(line: &[u8]) -> Result<Kind, Refusal>
         ensures { result ≡ or_unreadable (kind_asked line.now) }

@@ -5,4 +5,5 @@ pub mod kind;
 pub mod post;
 pub mod reply;
 pub mod request;
+pub mod session;
 pub mod word;

@@ -1,13 +1,13 @@
 //! What is printed for a line.
-ghost use Rattle.std.specs.Prelude.{Some};
-ghost use Rattle.std.specs.Fmt.{DisplaysOnOk};
-ghost use Rattle.crew.specs.Prints.{entry_fields, fields_of, printed, stretch_fields, sum_fields};
+ghost use Rattle.std.specs.Prelude.{◌≡◌, ◌<◌, ◌∷◌, ◌++◌, OnOk, string_bytes};
+ghost use Rattle.crew.specs.Prints.{bill_fields, entry_fields, fields_of, outcome_fields, printed_line, stretch_fields, sum_field, sum_fields};
 
 use crate::word::Word;
 use book::bill::Bill;
 use chip::entry::Entry;
 use chip::refusal::Refusal;
-use std::fmt;
+use itoa::{Buffer, Integer};
+use std::alloc::AllocError;
 
 /// What a line that was taken shows.
 #[derive(Clone, Copy, Debug, PartialEq, Eq)]
@@ -39,71 +39,92 @@ impl Reply {
         word: Word::Line,
         outcome: Err(Refusal::Unreadable),
     };
+
+    /// Adds to a text what is printed for it, a whole line: the word, 0 and what is shown or the refusal's number, and the line's end. Only
+    /// want of memory is an error.
+    pub fn append_to(&self, text: &mut String) -> Result<(), AllocError>
+        ensures { OnOk result (string_bytes text.new ≡ string_bytes text.old ++ printed_line self.now) }
+    {
+        text.push_str(self.word.text())?;
+        append_outcome(text, &self.outcome)?;
+        text.push('\n')
+    }
+}
+
+fn append_outcome(text: &mut String, outcome: &Result<Shown, Refusal>) -> Result<(), AllocError>
+    ensures { OnOk result (string_bytes text.new ≡ string_bytes text.old ++ outcome_fields outcome.now) }
+{
+    match outcome {
+        Ok(shown) => {
+            text.push_str(",0")?;
+            shown.append_to(text)
+        }
+        Err(refusal) => append_field(text, refusal.number()),
+    }
+}
+
+impl Shown {
+    // Each field after a comma.
+    fn append_to(&self, text: &mut String) -> Result<(), AllocError>
+        ensures { OnOk result (string_bytes text.new ≡ string_bytes text.old ++ fields_of self.now) }
+    {
+        match self {
+            Shown::Nothing => Ok(()),
+            Shown::Draw(draw) => append_field(text, *draw),
+            Shown::Entry(entry) => append_entry(text, entry),
+            Shown::Bill(bill) => append_bill(text, bill),
+        }
+    }
+}
+
+// A number after a comma.
+fn append_field<I: Integer>(text: &mut String, number: I) -> Result<(), AllocError>
+    ensures { OnOk result (string_bytes text.new ≡ string_bytes text.old ++ 44 ∷ I.text number) }
+{
+    text.push(',')?;
+    text.push_str(Buffer::new().format(number))
+}
+
+fn append_entry(text: &mut String, entry: &Entry) -> Result<(), AllocError>
+    ensures { OnOk result (string_bytes text.new ≡ string_bytes text.old ++ entry_fields entry.now) }
+{
+    append_stretch(text, entry)?;
+    append_sums(text, &entry.sums)
 }
 
 // What an entry says beside its sums.
-fn write_stretch<W: fmt::Write>(f: &mut fmt::Formatter<W>, entry: &Entry) -> fmt::Result
-    ensures { DisplaysOnOk W.write_str_gives f.old result (Some (stretch_fields entry.now)) f.new }
+fn append_stretch(text: &mut String, entry: &Entry) -> Result<(), AllocError>
+    ensures { OnOk result (string_bytes text.new ≡ string_bytes text.old ++ stretch_fields entry.now) }
 {
-    let Entry {
-        draw,
-        spoilt,
-        count,
-        rate,
-        off,
-        two_way,
-        sums: _,
-    } = *entry;
-    write!(f, ",{draw},{spoilt},{count},{rate},{off},{two_way}")
+    append_field(text, entry.draw)?;
+    append_field(text, entry.spoilt)?;
+    append_field(text, entry.count)?;
+    append_field(text, entry.rate)?;
+    append_field(text, entry.off)?;
+    append_field(text, entry.two_way)
 }
 
-fn write_sums<W: fmt::Write>(f: &mut fmt::Formatter<W>, sums: &[i64; 4]) -> fmt::Result
-    ensures { DisplaysOnOk W.write_str_gives f.old result (Some (sum_fields sums.now)) f.new }
+fn append_sums(text: &mut String, sums: &[i64; 4]) -> Result<(), AllocError>
+    ensures { OnOk result (string_bytes text.new ≡ string_bytes text.old ++ sum_fields sums.now) }
 {
-    let [sum1, sum2, sum3, sum4] = *sums;
-    write!(f, ",{sum1},{sum2},{sum3},{sum4}")
+    append_sum(text, sums, 0)?;
+    append_sum(text, sums, 1)?;
+    append_sum(text, sums, 2)?;
+    append_sum(text, sums, 3)
 }
 
-fn write_entry<W: fmt::Write>(f: &mut fmt::Formatter<W>, entry: &Entry) -> fmt::Result
-    ensures { DisplaysOnOk W.write_str_gives f.old result (Some (entry_fields entry.now)) f.new }
+// A channel's sum, counted from 0.
+fn append_sum(text: &mut String, sums: &[i64; 4], channel: usize) -> Result<(), AllocError>
+    requires { channel < 4 }
+    ensures { OnOk result (string_bytes text.new ≡ string_bytes text.old ++ sum_field sums.now channel) }
 {
-    write_stretch(f, entry)?;
-    write_sums(f, &entry.sums)
+    append_field(text, sums[channel])
 }
 
-// Each field after a comma.
-impl fmt::Display for Shown {
-    ghost output = { λ shown. Some (fields_of shown) };
-
-    fn fmt<W: fmt::Write>(&self, f: &mut fmt::Formatter<W>) -> fmt::Result {
-        match self {
-            Shown::Nothing => Ok(()),
-            Shown::Draw(draw) => write!(f, ",{draw}"),
-            Shown::Entry(entry) => write_entry(f, entry),
-            Shown::Bill(bill) => {
-                let Bill {
-                    energy,
-                    billed,
-                    spoilt,
-                } = *bill;
-                write!(f, ",{energy},{billed},{spoilt}")
-            }
-        }
-    }
-}
-
-// The word, and 0 and what is shown, or the refusal's number.
-impl fmt::Display for Reply {
-    ghost output = { λ reply. Some (printed reply) };
-
-    fn fmt<W: fmt::Write>(&self, f: &mut fmt::Formatter<W>) -> fmt::Result {
-        let word = self.word.text();
-        match self.outcome {
-            Ok(shown) => write!(f, "{word},0{shown}"),
-            Err(refusal) => {
-                let number = refusal.number();
-                write!(f, "{word},{number}")
-            }
-        }
-    }
+fn append_bill(text: &mut String, bill: &Bill) -> Result<(), AllocError>
+    ensures { OnOk result (string_bytes text.new ≡ string_bytes text.old ++ bill_fields bill.now) }
+{
+    append_field(text, bill.energy)?;
+    append_field(text, bill.billed)?;
+    append_field(text, bill.spoilt)
 }

@@ -1,7 +1,7 @@
 //! A post's beginning, the answer to a line, and its end.
 ghost use Rattle.std.specs.Prelude.{◌≡◌};
 ghost use Rattle.crew.specs.Asks.{asked};
-ghost use Rattle.crew.specs.Runs.{GoesOn, LineAnswered, OnRun, PostEnded, PostOpened, chip_at};
+ghost use Rattle.crew.specs.Runs.{GoesOn, LineAnswered, OnRun, PostEnded, PostOpened, chip_at, line_shows};
 ghost use Rattle.desk.specs.Standing.{standing};
 
 use super::{PLACES, Post, requests};
@@ -30,7 +30,7 @@ impl<'a, M: Make> Post<'a, M> {
     pub fn answer(&mut self, line: &[u8]) -> Reply
         ensures answered { LineAnswered M.Make.sheet (asked line.now) (standing self.old.desk) result (standing self.new.desk) }
         ensures statements { ∥ OnRun M.Make.sheet chip_at (standing self.new.desk) ∥₁ }
-        ensures goes_on { GoesOn M.Make.sheet chip_at (standing self.old.desk) (standing self.new.desk) }
+        ensures goes_on { GoesOn M.Make.sheet chip_at (line_shows (asked line.now) result.outcome) (standing self.old.desk) (standing self.new.desk) }
         ensures same { self.new.desk.book.places.ghost_name ≡ self.old.desk.book.places.ghost_name }
     {
         match Request::read(line) {

@@ -9,7 +9,8 @@ use chip::refusal::Refusal;
 use desk::desk::Desk;
 use wire::wire::Wire;
 
-// What is asked is done, or refused. A number above a byte is outside its limits.
+// What is asked is done, or refused. A number above a byte is outside its limits. Apart, so that a line that asks nothing costs little.
+#[inline(never)]
 pub(super) fn obey<W: Wire>(desk: &mut Desk<W>, request: Request) -> Result<Shown, Refusal>
     ensures obeyed { Obeyed W.Make.Make.sheet W.Wire.chip W.Wire.goes W.Wire.passes request (standing desk.old) result (standing desk.new) }
     ensures same { desk.new.book.places.ghost_name ≡ desk.old.book.places.ghost_name }

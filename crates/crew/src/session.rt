@@ -1,0 +1,76 @@
+//! A whole input answered: every line, from the first on, and the end.
+ghost use Rattle.std.specs.Prelude.{IfOk, OnOk, string_bytes};
+ghost use Rattle.crew.specs.Sessions.{Answers};
+ghost use Rattle.crew.specs.Texts.{KindPrinted, LinesPrinted, Opened, PostPrinted};
+ghost use Rattle.desk.specs.Standing.{standing};
+ghost use Rattle.lines.specs.Inputs.{lines_left};
+
+use crate::kind::{self, Kind};
+use crate::post::{PLACES, Post};
+use chip::entry::Entry;
+use chip::make::Make;
+use lines::input::Input;
+use makes::pac193x::Pac193x;
+use makes::pac194x::Pac194x;
+use std::alloc::{AllocError, Global};
+
+/// What is printed for an input: a reply to each line in its first 64 KiB, from a fresh chip of the kind that the lines name, and at the end
+/// a slip in hand is written off. Only want of memory is an error, and then nothing is to be printed.
+pub fn answer(alloc: Global, input: &[u8]) -> Result<String, AllocError>
+    ensures { IfOk result (λ text. Answers input.now (string_bytes text)) }
+{
+    let mut text = String::new(alloc);
+    let mut input = Input::new(input);
+    if let Some(kind) = open(&mut text, &mut input)? {
+        serve_kind(kind, &mut text, input)?;
+    }
+    Ok(text)
+}
+
+/// Answers the lines up to the first that names a kind of chip, and that one, and adds the replies to a text. It gives the kind, if one was named.
+pub fn open(text: &mut String, input: &mut Input) -> Result<Option<Kind>, AllocError>
+    ensures { IfOk result (λ k. Opened (lines_left input.old) (string_bytes text.old) k (lines_left input.new) (string_bytes text.new)) }
+{
+    while let Some(line) = input.next() {
+        let (reply, kind) = kind::opening(line);
+        reply.append_to(text)?;
+        if kind.is_some() {
+            return Ok(kind);
+        }
+    }
+    Ok(None)
+}
+
+// All lines that are left, at a new post of this kind.
+fn serve_kind(kind: Kind, text: &mut String, input: Input) -> Result<(), AllocError>
+    ensures { OnOk result (KindPrinted kind (lines_left input.entry) (string_bytes text.old) (string_bytes text.new)) }
+{
+    match kind {
+        Kind::Pac193x => serve::<Pac193x>(text, input),
+        Kind::Pac194x => serve::<Pac194x>(text, input),
+    }
+}
+
+// All lines that are left, at a new post of this make. What can fail stands where the post is lent, so that it always ends, and with it a slip in hand.
+fn serve<M: Make>(text: &mut String, input: Input) -> Result<(), AllocError>
+    ensures { OnOk result (PostPrinted M.Make.sheet M (lines_left input.entry) (string_bytes text.old) (string_bytes text.new)) }
+{
+    let mut places = [Entry::EMPTY; PLACES];
+    let mut post = Post::<M>::new(&mut places);
+    let answered = answer_lines(text, &mut post, input);
+    let (_wire, _book) = post.end();
+    answered
+}
+
+fn answer_lines<M: Make>(
+    text: &mut String,
+    post: &mut Post<M>,
+    input: Input,
+) -> Result<(), AllocError>
+    ensures { OnOk result (LinesPrinted M.Make.sheet (lines_left input.entry) (standing post.old.desk) (string_bytes text.old) (standing post.new.desk) (string_bytes text.new)) }
+{
+    for line in input {
+        post.answer(line).append_to(text)?;
+    }
+    Ok(())
+}
