@@ -8,35 +8,50 @@ mod raw;
 mod reply;
 
 use chip::make::Make;
-use crew::kind::{self, Kind};
+use crew::kind::ForMake;
+use crew::session;
 use lines::input::{Input, LIMIT};
-use makes::pac193x::Pac193x;
-use makes::pac194x::Pac194x;
 use std::io::Read;
 use wire::direct::Direct;
 use wire::scripted::Scripted;
 
 fn main(rt: HostRuntime) -> anyhow::Result<()> {
     let mut text = Vec::new(rt.alloc());
-    rt.stdin().take(LIMIT).read_to_end(&mut text)?;
+    // One byte more than is answered tells whether there is a rest.
+    rt.stdin().take(LIMIT as u64 + 1).read_to_end(&mut text)?;
+    if text.len() > LIMIT {
+        eprintln!(rt; "console: only the first {LIMIT} bytes of the input were read")?;
+    }
     run(&rt, Input::new(text.as_slice()))
 }
 
 // With no chip on the bench only a good `kind` line can be read.
-fn run(rt: &impl Print, mut input: Input) -> anyhow::Result<()> {
-    for line in input.by_ref() {
-        let (reply, kind) = kind::opening(line);
-        rt.println(reply)?;
-        match kind {
-            Some(Kind::Pac193x) => return serve::<Pac193x>(rt, input),
-            Some(Kind::Pac194x) => return serve::<Pac194x>(rt, input),
-            None => {}
-        }
+fn run<R: Print + AllocGlobal>(rt: &R, mut input: Input) -> anyhow::Result<()> {
+    let mut replies = String::new(rt.alloc());
+    let kind = session::open(&mut replies, &mut input)?;
+    rt.print(replies.as_str())?;
+    match kind {
+        Some(kind) => kind.choose(Rest { rt, input }),
+        None => Ok(()),
     }
-    Ok(())
 }
 
-// Every line after the `kind` line, for a fresh chip of that make.
-fn serve<M: Make>(rt: &impl Print, input: Input) -> anyhow::Result<()> {
-    raw::serve(rt, Scripted::new(Direct::<M>::new()), input)
+// Every line after the `kind` line, for a fresh chip of the make that it names.
+struct Rest<'a, R> {
+    rt: &'a R,
+    input: Input<'a>,
+}
+
+impl<R: Print> ForMake for Rest<'_, R> {
+    ghost use Rattle.std.specs.Prelude.{⊤};
+
+    type Done = anyhow::Result<()>;
+
+    // What is printed is promised by nobody.
+    ghost done = { λ rest sheet result. ⊤ };
+
+    fn with<M: Make>(self) -> anyhow::Result<()> {
+        let Rest { rt, input } = self;
+        raw::serve(rt, Scripted::new(Direct::<M>::new()), input)
+    }
 }

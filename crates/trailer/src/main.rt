@@ -1,57 +1,19 @@
-//! The crew's program: answers lines of standard input at a meter with a chip of its own.
+//! The crew's program: moves the bytes of standard input to the library that answers them, and its answer to standard output.
 #![tactic(auto)]
 
-use chip::entry::Entry;
-use chip::make::Make;
-use crew::kind::{self, Kind};
-use crew::post::{PLACES, Post};
-use lines::input::{Input, LIMIT};
-use makes::pac193x::Pac193x;
-use makes::pac194x::Pac194x;
+use crew::session;
+use lines::input::LIMIT;
 use std::io;
-use std::io::{BufWriter, Read, Write};
+use std::io::{Read, Write};
 
 fn main(rt: HostRuntime) -> anyhow::Result<()> {
-    let mut text = Vec::new(rt.alloc());
-    rt.stdin().take(LIMIT).read_to_end(&mut text)?;
-    // All input is read by now, so nobody waits for one line's reply.
-    let mut out = BufWriter::new(rt.alloc(), io::writer(&rt))?;
-    run(&mut out, Input::new(text.as_slice()))?;
-    out.flush()?;
-    Ok(())
-}
-
-// Before a good `kind` line nothing else can be read.
-fn run(out: &mut impl Write, mut input: Input) -> anyhow::Result<()> {
-    for line in input.by_ref() {
-        let (reply, kind) = kind::opening(line);
-        writeln!(out, "{reply}")?;
-        match kind {
-            Some(Kind::Pac193x) => return serve::<Pac193x>(out, input),
-            Some(Kind::Pac194x) => return serve::<Pac194x>(out, input),
-            None => {}
-        }
+    let mut input = Vec::new(rt.alloc());
+    // One byte more than is answered tells whether there is a rest.
+    rt.stdin().take(LIMIT as u64 + 1).read_to_end(&mut input)?;
+    if input.len() > LIMIT {
+        eprintln!(rt; "trailer: only the first {LIMIT} bytes of the input were read")?;
     }
-    Ok(())
-}
-
-// Every line after the `kind` line. All that can fail stands where the post is lent, so that it always ends, and with it a slip
-// that is still in hand.
-fn serve<M: Make>(out: &mut impl Write, input: Input) -> anyhow::Result<()> {
-    let mut places = [Entry::EMPTY; PLACES];
-    let mut post = Post::<M>::new(&mut places);
-    let served = answer_all(out, &mut post, input);
-    let (_wire, _book) = post.end();
-    served
-}
-
-fn answer_all<M: Make>(
-    out: &mut impl Write,
-    post: &mut Post<M>,
-    input: Input,
-) -> anyhow::Result<()> {
-    for line in input {
-        writeln!(out, "{}", post.answer(line))?;
-    }
+    let replies = session::answer(rt.alloc(), input.as_slice())?;
+    io::writer(&rt).write_all(replies.as_bytes())?;
     Ok(())
 }

@@ -1,12 +1,12 @@
-//! Plays the transcripts of its data folder to the crew's posts, and compares the replies with what a model that was written apart expects.
-//! It prints a line for each, and fails if one differs.
+//! Answers the transcripts of its data folder as the line program does, and compares what would be printed with what a model that was written
+//! apart expects. It prints a line for each, and fails if one differs.
 #![tactic(auto)]
 
 mod difference;
-mod replay;
 mod transcript;
 
 use anyhow::Context;
+use crew::session;
 use difference::Difference;
 use std::fs;
 use std::rt::Files;
@@ -41,7 +41,7 @@ fn names<R: Files + AllocGlobal + Clone + Drop>(rt: &R) -> anyhow::Result<Vec<St
 // Prints a transcript's line, and says whether its replies are as expected.
 fn check<R: Files + Print + AllocGlobal>(rt: &R, name: &str) -> anyhow::Result<bool> {
     let transcript = Transcript::open(rt, name).context(format_args!("{name}"))?;
-    let replies = replay::replies(rt.alloc(), transcript.input.as_slice())?;
+    let replies = session::answer(rt.alloc(), transcript.input.as_slice())?;
     match Difference::first(replies.as_str(), transcript.expected.as_str()) {
         None => {
             println!(rt; "{name}: ok")?;

@@ -1,8 +1,6 @@
 //! A transcript: what is read, and what is to be printed.
 
-use lines::input::LIMIT;
 use std::alloc::Global;
-use std::io::Read;
 use std::rt::Files;
 use std::{fs, io};
 
@@ -16,14 +14,10 @@ impl Transcript {
     // From the two files of that name.
     pub(crate) fn open<R: Files + AllocGlobal>(rt: &R, name: &str) -> io::Result<Transcript> {
         let alloc: Global = rt.alloc();
-        let mut input = Vec::new(alloc);
         let lines = format!(in alloc; "{name}.txt")?;
-        fs::open(rt, lines.as_str())?
-            .take(LIMIT)
-            .read_to_end(&mut input)?;
         let expected = format!(in alloc; "{name}.out")?;
         Ok(Transcript {
-            input,
+            input: fs::read(rt, lines.as_str())?,
             expected: fs::read_to_string(rt, expected.as_str())?,
         })
     }
