@@ -8,7 +8,9 @@
 
 The last argument is the folder if it names one, else the folder is examples/.
 Every .txt of the folder with a .out beside it is fed to the program; what it
-prints must be the .out, byte for byte, and it must end with status 0.
+prints must be the .out, byte for byte, and it must end with status 0.  On
+standard error it must print one line for an input that is longer than it reads,
+and nothing for any other.
 Differences are reported line by line, and any makes the exit status 1.
 """
 
@@ -21,6 +23,7 @@ BENCH = Path(__file__).resolve().parent
 EXAMPLES = BENCH.parent / "examples"
 MODEL = [sys.executable, str(BENCH / "model.py"), "trailer"]
 SHOWN = 10  # differences printed for each example
+LONGEST_INPUT = 65_536  # bytes; the rest is not read, and the program says so
 
 
 def differences(source, expected, printed):
@@ -39,12 +42,15 @@ def check(command, example):
     """Run one example; say what is wrong and whether nothing is."""
     source = example.read_bytes()
     expected = example.with_suffix(".out").read_bytes()
-    done = subprocess.run(command, input=source, stdout=subprocess.PIPE)
+    done = subprocess.run(command, input=source, capture_output=True)
     unlike = differences(source, expected, done.stdout)
-    good = not unlike and done.returncode == 0
+    warned = done.stderr.count(b"\n") == (len(source) > LONGEST_INPUT)
+    good = not unlike and warned and done.returncode == 0
     print(f"{example.name}: {'ok' if good else 'DIFFERENT'}")
     if done.returncode != 0:
         print(f"  exit status {done.returncode}")
+    if not warned:
+        print(f"  on standard error: {show(done.stderr)}")
     for number, line, wanted, got in unlike[:SHOWN]:
         print(f"  line {number}: {show(line)}")
         print(f"    expected {show(wanted)}")

@@ -1064,7 +1064,10 @@ def main():
     name = sys.argv[1] if len(sys.argv) > 1 else "console"
     if len(sys.argv) > 2 or name not in PROGRAMS:
         sys.exit(f"usage: model.py [{'|'.join(PROGRAMS)}] < FILE")
-    print(answers(PROGRAMS[name](), sys.stdin.buffer.read(LONGEST_INPUT)), end="")
+    data = sys.stdin.buffer.read(LONGEST_INPUT + 1)
+    if len(data) > LONGEST_INPUT:
+        print(f"{name}: only the first {LONGEST_INPUT} bytes of the input were read", file=sys.stderr)
+    print(answers(PROGRAMS[name](), data), end="")
 
 
 if __name__ == "__main__":
