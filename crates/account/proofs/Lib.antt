@@ -9,7 +9,8 @@ pub mod Runs
 pub mod Conserving
 pub mod Billing
 pub mod Assembly
-pub mod Manners
+pub mod CallsKeepRules
+pub mod CallsAreTrueToChip
 pub mod Wires
 pub mod LawfulSingle
 pub mod Benches

@@ -2,9 +2,10 @@
 #![tactic(auto)]
 
 ghost use Rattle.account.specs.Book.{BooksKeep};
+ghost use Rattle.account.specs.CallRules.{EveryCall};
 ghost use Rattle.account.specs.Calls.{CarriesRuns, CallsExact};
 ghost use Rattle.account.specs.Single.{single};
-ghost use Rattle.account.specs.Statements.{EveryRun, EveryCall, BookGrows};
+ghost use Rattle.account.specs.Statements.{EveryRun};
 ghost use Rattle.account.specs.Theorems.{RunsThereAre};
 ghost use Rattle.account.specs.Worked.{Worked, WhyFresh};
 ghost use Rattle.chip.specs.Laws.{Lawful};
@@ -17,8 +18,11 @@ pub fn every_run_is_accounted()
     ensures { EveryRun }
 {}
 
-/// Over every lawful make: what each refusal leaves, that a draw obeys the set-up, makes at most five transactions, and goes on, and that a look
-/// answers the latest code.
+/// Over every lawful make, whatever run a call is on and whatever its wire does. The first of its tests that is wrong refuses it, by that test's number,
+/// sends nothing and leaves the meter; with nothing wrong and every transaction answered it is taken. 2 and 3 are those of its last transaction, and
+/// leave the meter but for what a draw then knows of its REFRESH. A call that is taken gives its own answer and changes no more than that call is to
+/// change. A draw asks for five transactions at most, and puts the wanted settings in force where its REFRESH was carried out. A look answers the
+/// latest code, and a booking gives the entry of the image as the chip holds it.
 pub fn every_call_keeps_its_word()
     ensures { EveryCall }
 {}
@@ -36,11 +40,6 @@ pub fn calls_are_exact<M: Make>()
 /// A booking fills the next free place and leaves every other.
 pub fn books_keep_what_they_hold()
     ensures { BooksKeep }
-{}
-
-/// Earlier entries never change.
-pub fn the_book_only_grows()
-    ensures { BookGrows }
 {}
 
 /// A make of one channel with other addresses keeps the laws, so nothing rests on the makes with four.
