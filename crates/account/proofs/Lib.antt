@@ -11,6 +11,7 @@ pub mod Billing
 pub mod Assembly
 pub mod CallsKeepRules
 pub mod CallsAreTrueToChip
+pub mod CallsLeave
 pub mod Wires
 pub mod LawfulSingle
 pub mod Benches
