@@ -15,6 +15,7 @@ invariant_of-self-in-Err g c =
     record {
       fits = subst (λ p. fits_slip (meter_of c.book.new.self) (slip_of p) ≡ true) (sym c.in-Err.ensures.back.same)
           (refused_booking_keeps g.W.Make.Make.sheet _ _ c.args.self.now.meter c.book.new.self c.in_ok-slip.slip _ c.in-Err.field-0.refusal fits c.in-Err.ensures.made);
+      unspent = λ p is. let back = c.in-Err.ensures.back.unspent (c.args.self.now.unspent _ hand) in cc;
     }
 
 pub returns-in-Ok-clause-made : goal.returns-in-Ok-clause-made

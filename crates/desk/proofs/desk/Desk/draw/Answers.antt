@@ -8,10 +8,16 @@ use Rattle.meter.specs.Promises.{MadeAlone}
 use Rattle.meter.specs.Views.{meter_of}
 
 pub invariant_of-self : goal.invariant_of-self
-invariant_of-self g c = record { fits = draw_keeps g.W.Make.Make.sheet _ _ c.args.self.now.meter c.draw.new.self c.args.self.now.slip c.args.self.now.fits c.draw.ensures.made }
+invariant_of-self g c = record {
+  fits = draw_keeps g.W.Make.Make.sheet _ _ c.args.self.now.meter c.draw.new.self c.args.self.now.slip c.args.self.now.fits c.draw.ensures.made;
+  unspent = c.args.self.now.unspent;
+}
 
 pub invariant_of-self-2 : goal.invariant_of-self-2
-invariant_of-self-2 g c = record { fits = (drawn_fits g.W.Make.Make.sheet _ _ c.args.self.now.meter c.draw.new.self c.in_ok-slip.slip c.in_ok-slip.ensures.made).1 }
+invariant_of-self-2 g c = record {
+  fits = (drawn_fits g.W.Make.Make.sheet _ _ c.args.self.now.meter c.draw.new.self c.in_ok-slip.slip c.in_ok-slip.ensures.made).1;
+  unspent = λ p is. let fresh = c.in_ok-slip.ensures.unspent in cc;
+}
 
 pub drop-self-requires : goal.drop-self-requires
 drop-self-requires g c =
