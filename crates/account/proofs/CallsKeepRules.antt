@@ -42,10 +42,10 @@ module _ (m : Datasheet) where
     RefusedLate ss t' (Broken a) = LastFailed q a broken ss t t'
     RefusedLate ss t' e = ⊥
 
-    -- or it is taken
+    -- or it is taken, with every transaction answered
     abbrev EndsLate : List Step → Meter → Answer → Type 0
     EndsLate ss t' (refused e) = RefusedLate ss t' e
-    EndsLate ss t' r = Taken m q r t places es t'
+    EndsLate ss t' r = Taken m q r t places es t' × all_answered ss
 
     -- how a call ends that got past its tests, with n transactions still to come at most
     record Late (n : ℕ) (ss : List Step) (a : Meter × Answer) : Type 0 where
@@ -84,7 +84,7 @@ module _ (m : Datasheet) where
 
       ended_so : (r : Answer) → EndsLate ss t' r → RefusedOrTaken m q r t places es ss t'
       ended_so (refused e) p = refused_so e p
-      ended_so r p = p
+      ended_so r p = p.0
 
       -- such a refusal leaves a transaction unanswered
       no_failure : (e : Refusal) → RefusedLate ss t' e → all_answered ss → ⊥
@@ -92,17 +92,23 @@ module _ (m : Datasheet) where
       no_failure (Broken a) p = last_unanswered _ _ (λ bs is. cc) ss p.last
       no_failure e p = λ every. p
 
+      taken_answered : (r : Answer) → EndsLate ss t' r → ((e : Refusal) → r ≡ refused e → ⊥) → all_answered ss
+      taken_answered (refused e) p no_refusal = absurd (no_refusal e refl)
+      taken_answered r p no_refusal = p.1
+
       ended_by : (r : Answer) (o : Option Refusal) → first_wrong (tests m q t places es) ≡ o → Ends o ss (t', r) → RulesKept m q t places es ss t' r
       ended_by r None none p = record {
         reason = ended_so r p.end;
         tested = λ e is. cc;
         progress = λ _ every e is. no_failure e (subst (EndsLate ss t') is p.end) every;
+        complete = taken_answered r p.end;
         few = p.few;
       }
       ended_by r (Some e) wrong p = record {
         reason = subst (λ x. RefusedOrTaken m q x t places es ss t') (sym p.0) (untried_so e p.3 (record { wrong = wrong; nothing_sent = p.1; meter = p.2 }));
         tested = λ x is. let first = p.0 in cc;
         progress = λ none. cc;
+        complete = λ no_refusal. absurd (no_refusal e p.0);
         few = let none = ap length p.1 in omega arith;
       }
 
@@ -119,7 +125,7 @@ module _ (m : Datasheet) where
 
     later : (s : Step) (bs : List ℕ) → s.got ≡ answered bs → (ss : List Step) (t' : Meter) (r : Answer) → EndsLate ss t' r → EndsLate (s ∷ ss) t' r
     later s bs is ss t' (refused e) p = later_refusal s bs is ss t' e p
-    later s bs is ss t' r p = p
+    later s bs is ss t' r p = (p.0, ((bs, is), p.1))
 
     -- a transaction: answered, the rest ends; failed, the call does, in the condition of the rule
     asks_late : (n : ℕ) (x : Request) (k l : Condition) → ((w : Who) → k ≡ condition_left q x (unacknowledged w) t.condition) → l ≡ condition_left q x broken t.condition
@@ -140,7 +146,7 @@ module _ (m : Datasheet) where
     Drawing n = Late draw t places es n
 
     hands_late : (n : ℕ) → All (Drawing n) (hands t)
-    hands_late n = record { few = omega arith; end = (refl, refl) }
+    hands_late n = record { few = omega arith; end = ((refl, refl), tt) }
 
     sets_late : (ps : List (ℕ × List ℕ)) → All (Drawing (suc (length ps))) (sets m t ps)
     sets_late [] = asks_late draw t places es 0 (send m.refresh) unfinished in_doubt (λ w. refl) refl (λ bs. hands t) (λ bs. hands_late 0)
@@ -181,7 +187,7 @@ module _ (m : Datasheet) where
           (λ bs. gathers_late ps (λ rs. f (bs ++ rs)) (λ rs. h (bs ++ rs)))
 
       enters_late : All (Booking (length m.booking_reads)) (enters m t p)
-      enters_late = gathers_late m.booking_reads _ (λ rs. record { few = omega arith; end = refl })
+      enters_late = gathers_late m.booking_reads _ (λ rs. record { few = omega arith; end = (refl, tt) })
 
     -- A LOOK
     module _ (ch k : ℕ) where
@@ -189,7 +195,7 @@ module _ (m : Datasheet) where
       Looking n = Late (look ch k) t places es n
 
       looked_late : (n : ℕ) (g : Reading) → All (Looking n) (ends (t, looked g))
-      looked_late n g = record { few = omega arith; end = refl }
+      looked_late n g = record { few = omega arith; end = (refl, tt) }
 
       module _ (is : t.condition ≡ ready) where
         look_asks : (n : ℕ) (x : Request) (f : List ℕ → Way) → ((bs : List ℕ) → All (Looking n) (f bs)) → All (Looking (suc n)) (asks x (or_fails t ready ready (address_of x) f))
@@ -211,18 +217,18 @@ module _ (m : Datasheet) where
         → bill kind places es ch u ≡ cond b (elim o as (λ _. Bill) [ Some x ↦ no_bill (BadEntry x) | None ↦ bill_of z n k ]) (no_bill Limits)
         → Ends (bill_for kind ch u) t places es (first_wrong ((not b, Limits) ∷ bad_entry o)) []
         (t, bill_answer (cond b (elim o as (λ _. Bill) [ Some x ↦ no_bill (BadEntry x) | None ↦ bill_of z n k ]) (no_bill Limits)))
-    bills_end kind ch u true None z n k is = record { few = omega arith; end = (is, refl) }
+    bills_end kind ch u true None z n k is = record { few = omega arith; end = ((is, refl), tt) }
     bills_end kind ch u true (Some x) z n k is = (refl, refl, refl, tt)
     bills_end kind ch u false o z n k is = (refl, refl, refl, tt)
 
     -- EVERY CALL
     all_end : Lawful m → (q : Call) → All (Ends q t places es (first_wrong (tests m q t places es))) (dialogue m q t places es)
-    all_end law (set_up w) = one_limit (set_up w) t places es (m.offers w) Limits tt None _ (record { few = omega arith; end = refl })
+    all_end law (set_up w) = one_limit (set_up w) t places es (m.offers w) Limits tt None _ (record { few = omega arith; end = (refl, tt) })
     all_end law draw = draws_end law t.condition
     all_end law (book p n) =
         one_limit (book p n) t places es (book_limits places (length es) n) Limits tt _ _ (one_limit (book p n) t places es (fits_slip t p) WrongSlip tt _ _
         (one_test (book p n) t places es (eqb (length es) places) Full tt None _ (enters_late p n)))
-    all_end law (write_off p) = one_limit (write_off p) t places es (fits_slip t p) WrongSlip tt None _ (record { few = omega arith; end = refl })
+    all_end law (write_off p) = one_limit (write_off p) t places es (fits_slip t p) WrongSlip tt None _ (record { few = omega arith; end = (refl, tt) })
     all_end law (look ch k) = one_limit (look ch k) t places es (look_limits m ch k) Limits tt _ _ (looks_end ch k t.condition refl)
     all_end law (bill_for kind ch u) = bills_end kind ch u (bill_limits kind places (length es) ch u) (first_bad kind 0 es) _ _ _ refl
 

@@ -69,6 +69,7 @@ OnlyLastFailed q r [] = ⊥
 OnlyLastFailed q r (s ∷ []) = (s.asked ≡ q) × (s.got ≡ r)
 OnlyLastFailed q r (s ∷ (x ∷ ss)) = ((bs : List ℕ) × (s.got ≡ answered bs)) × OnlyLastFailed q r (x ∷ ss)
 
+-- all steps answered
 abbrev pub all_answered : List Step → Type 0
 all_answered ss = Every (λ s. (bs : List ℕ) × (s.got ≡ answered bs)) ss
 
@@ -120,6 +121,7 @@ module _ (m : Datasheet) where
   most_transactions (look ch k) = 3
   most_transactions q = 0
 
+  -- the rules that every call keeps
   pub record RulesKept (q : Call) (t : Meter) (places : ℕ) (es : List Entry) (ss : List Step) (t' : Meter) (r : Answer) : Type 0 where
     -- a refusal has its reason: its first test that is wrong, or its last transaction
     pub reason : RefusedOrTaken q r t places es ss t'
@@ -127,10 +129,13 @@ module _ (m : Datasheet) where
     pub tested : (e : Refusal) → first_wrong (tests m q t places es) ≡ Some e → r ≡ refused e
     -- with nothing wrong, and every transaction answered, the call is taken
     pub progress : first_wrong (tests m q t places es) ≡ None → all_answered ss → (e : Refusal) → r ≡ refused e → ⊥
+    -- and a call that is taken had every transaction answered
+    pub complete : ((e : Refusal) → r ≡ refused e → ⊥) → all_answered ss
     pub few : length ss ≤ most_transactions q
 
   -- WHAT A CALL HAS TO DO WITH ITS CHIP
 
+  -- whether the chip carried a REFRESH out
   abbrev pub refresh_carried : List Step → Bool
   refresh_carried [] = false
   refresh_carried (s ∷ ss) = cond (is_refresh m s.asked && s.carried) true (refresh_carried ss)
@@ -159,12 +164,13 @@ module _ (m : Datasheet) where
   ToldOfChip (book p scratch) (entered e) c c' = ImageEntered c c' p e
   ToldOfChip q r c c' = Unit {0}
 
+  -- how a call and its chip agree, whatever the chip stood at
   pub record TrueToChip (q : Call) (t : Meter) (c : State) (ss : List Step) (c' : State) (r : Answer) : Type 0 where
     -- a draw whose REFRESH was carried out, whatever it answered, put the settings in force that were wanted
     pub obeyed : q ≡ draw → m.offers t.wanted ≡ true → refresh_carried ss ≡ true → meaning m c'.active ≡ t.wanted
     pub told : ToldOfChip q r c c'
 
-  -- every call keeps these, along its transactions, and with them its chip
+  -- every call keeps the rules, and agrees with its chip, along whatever transactions it had
   abbrev pub RulesAlways : Type 0
   RulesAlways = (q : Call) (t t' : Meter) (places : ℕ) (es : List Entry) (ss : List Step) (r : Answer)
       → Follows (dialogue m q t places es) ss (t', r) → RulesKept q t places es ss t' r

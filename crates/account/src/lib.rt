@@ -18,11 +18,11 @@ pub fn every_run_is_accounted()
     ensures { EveryRun }
 {}
 
-/// Over every lawful make, whatever run a call is on and whatever its wire does. The first of its tests that is wrong refuses it, by that test's number,
-/// sends nothing and leaves the meter; with nothing wrong and every transaction answered it is taken. 2 and 3 are those of its last transaction, and
-/// leave the meter but for what a draw then knows of its REFRESH. A call that is taken gives its own answer and changes no more than that call is to
-/// change. A draw asks for five transactions at most, and puts the wanted settings in force where its REFRESH was carried out. A look answers the
-/// latest code, and a booking gives the entry of the image as the chip holds it.
+/// Over every lawful make, whatever the meter, the book and the chip stand at, and whatever the wire does. The first test of a call that is wrong refuses
+/// it, by that test's number: nothing is sent, and the meter stays. With nothing wrong the call is taken exactly where every transaction was answered;
+/// else 2 or 3 is that of its last transaction, and of the meter only the condition may be another, and only after a draw. A call that is taken changes
+/// of the meter what that call is to change, and nothing else. A draw asks for five transactions at most, and where its REFRESH was carried out the
+/// wanted settings are in force. A look shows the latest code, and a booking gives the entry of the chip's image, whatever image that is.
 pub fn every_call_keeps_its_word()
     ensures { EveryCall }
 {}
