@@ -1,6 +1,6 @@
 -- Every call is true to its chip: a draw obeys, a look shows the latest code, a booking gives the image's entry.
 use Rattle.std.proofs.Common.{◌≡◌, ℕ, ◌-◌, ◌≤◌, Bool, true, false, cond, not, ◌&&◌, eqb, leb, List, [], ◌∷◌, ◌++◌, length, Some, None, Option, refl, ap, ◌∙◌, subst, ap₂, arith}
-use Rattle.std.proofs.lemmas.Bool.{and_parts, both_ways, eqb-false, eqb-true, leb-true}
+use Rattle.std.proofs.lemmas.Bool.{and_parts, eqb-false, eqb-true, leb-true}
 use Rattle.account.proofs.CallsKeepRules.{rules_always}
 use Rattle.account.proofs.Walks.{does_refresh, does_refresh_v, went_exactly, went_read, went_write}
 use Rattle.account.proofs.Ways.{Wq, walked_to, wq_by, wq_cond}
@@ -21,38 +21,42 @@ module _ (m : Datasheet) where
     abbrev Obeyed : List Step → Meter × Answer → State → Type 0
     Obeyed ss a c = refresh_carried m ss ≡ true → meaning m c.active ≡ t.wanted
 
+    -- a step that was not carried out carried no REFRESH out
     never : {A : Type 0} (b : Bool) → ◌≡◌ {A = Bool} (cond (b && false) true false) true → A
-    never true e = absurd (both_ways false refl e)
-    never false e = absurd (both_ways false refl e)
+    never true e = cc
+    never false e = cc
 
+    not_so : {A : Type 0} → ◌≡◌ {A = Bool} false true → A
+    not_so e = cc
+
+    -- REFRESH puts the held settings in force
     closes_obeys : (c : State) → meaning m c.held.settings ≡ t.wanted → Wq m Obeyed (closes m t) c
     closes_obeys c e = went_exactly m c (refreshed c) [] (does_refresh m c) (λ y. e) (λ w y. never (eqb m.refresh m.refresh) y) (λ y. never (eqb m.refresh m.refresh) y)
         (λ y. e)
 
+    -- what the rest of the writes leaves, once the first was taken
     on_next : (o : Option Held) (f b : Bool) (w : Wanted) (s : Held) (ps : List (ℕ × List ℕ)) → Means m w b (cond f (elim o [ None ↦ None | Some s' ↦ written m ps s' ]) None)
         → o ≡ Some s → f ≡ true → Means m w b (written m ps s)
     on_next o f b w s ps q e g = rw (g, e) at q
 
+    -- the writes leave the wanted settings held
     sets_obeys : (b : Bool) (ps : List (ℕ × List ℕ)) (c : State) → Means m t.wanted b (written m ps c.held) → Wq m Obeyed (sets m t ps) c
     sets_obeys b [] c q = closes_obeys c q.1
     sets_obeys b (p ∷ ps) c q = went_write m c
         (λ s r kept len does_it. sets_obeys b ps (with_held c s) (on_next (m.keeps p.0 (number p.1) c.held) (eqb (length p.1) (m.width p.0)) b
         t.wanted s ps q kept len))
-        (λ w y. absurd (both_ways false refl y)) (λ y. absurd (both_ways false refl y)) (λ s r does_it y. absurd (both_ways false refl y))
+        (λ w. not_so) not_so (λ s r does_it. not_so)
 
     module _ (law : Lawful m) (ok : m.offers t.wanted ≡ true) (c : State) where
       refreshes_obey : Wq m Obeyed (refreshes m t) c
       refreshes_obey = sets_obeys (not t.mark) (m.settings_writes t.wanted (not t.mark)) c (law.written_means t.wanted ok (not t.mark) c.held)
 
-      none_sent : {A : Type 0} → false ≡ true → A
-      none_sent y = absurd (both_ways false refl y)
-
       draws_obey : (k : Condition) → Wq m Obeyed (draws_at m t k) c
-      draws_obey ready = wq_cond m Obeyed (eqb t.last 4294967295) _ (refreshes m t) c (λ y. none_sent y) refreshes_obey
-      draws_obey unfinished = wq_cond m Obeyed (eqb t.last 4294967295) _ (refreshes m t) c (λ y. none_sent y) refreshes_obey
-      draws_obey in_doubt = wq_cond m Obeyed (eqb t.last 4294967295) _ (asks_mark m t) c (λ y. none_sent y)
-          (went_read m c (λ e. wq_cond m Obeyed _ (hands t) (refreshes m t) c (λ y. none_sent y) refreshes_obey) (λ w y. none_sent y) (λ y. none_sent y) (λ e y. none_sent y))
-      draws_obey (slip_out n) = λ y. none_sent y
+      draws_obey ready = wq_cond m Obeyed (eqb t.last 4294967295) _ (refreshes m t) c not_so refreshes_obey
+      draws_obey unfinished = wq_cond m Obeyed (eqb t.last 4294967295) _ (refreshes m t) c not_so refreshes_obey
+      draws_obey in_doubt = wq_cond m Obeyed (eqb t.last 4294967295) _ (asks_mark m t) c not_so
+          (went_read m c (λ e. wq_cond m Obeyed _ (hands t) (refreshes m t) c not_so refreshes_obey) (λ w. not_so) not_so (λ e. not_so))
+      draws_obey (slip_out n) = not_so
 
   -- A LOOK that answers gives the latest code
   module _ (law : Lawful m) (t : Meter) (ch k : ℕ) (c : State) where
@@ -60,6 +64,7 @@ module _ (m : Datasheet) where
     Told ss a c' = ToldOfChip m (look ch k) a.1 c c'
 
     module _ (low : 1 ≤ ch) (high : ch ≤ m.channels) where
+      -- the codes of the image that the REFRESH_V latched
       bus_seen : k ≡ 0 → volts (number (reply m (latched c) (m.code_at ch k) 2)) ≡ volts (latest_bus m c (ch - 1))
       bus_seen e = ap volts (ap (λ x. number (reply m (latched c) (m.code_at ch x) 2)) e ∙ law.bus_read (latched c) ch low high)
 
@@ -97,6 +102,7 @@ module _ (m : Datasheet) where
     gathers_told [] f h = h
     gathers_told (x ∷ ps) f h = went_read m c (λ e. gathers_told ps (λ rs. f (reply m c x.0 x.1 ++ rs)) h) (λ w. tt) tt (λ e. tt)
 
+    -- so the entry in them is the image's
     book_told : (places filled : ℕ) → Wq m Entered (books m t p places filled scratch) c
     book_told places filled = wq_cond m Entered (book_limits places filled scratch) _ _ c
         (wq_cond m Entered (fits_slip t p) _ _ c (wq_cond m Entered (eqb filled places) _ _ c tt

@@ -92,10 +92,12 @@ module _ (m : Datasheet) where
       no_failure (Broken a) p = last_unanswered _ _ (λ bs is. cc) ss p.last
       no_failure e p = λ every. p
 
+      -- and a call that is taken leaves none
       taken_answered : (r : Answer) → EndsLate ss t' r → ((e : Refusal) → r ≡ refused e → ⊥) → all_answered ss
       taken_answered (refused e) p no_refusal = absurd (no_refusal e refl)
       taken_answered r p no_refusal = p.1
 
+      -- the rules follow from how the call ended, by its first test that is wrong
       ended_by : (r : Answer) (o : Option Refusal) → first_wrong (tests m q t places es) ≡ o → Ends o ss (t', r) → RulesKept m q t places es ss t' r
       ended_by r None none p = record {
         reason = ended_so r p.end;
@@ -148,6 +150,7 @@ module _ (m : Datasheet) where
     hands_late : (n : ℕ) → All (Drawing n) (hands t)
     hands_late n = record { few = omega arith; end = ((refl, refl), tt) }
 
+    -- one transaction for each write, and one for REFRESH
     sets_late : (ps : List (ℕ × List ℕ)) → All (Drawing (suc (length ps))) (sets m t ps)
     sets_late [] = asks_late draw t places es 0 (send m.refresh) unfinished in_doubt (λ w. refl) refl (λ bs. hands t) (λ bs. hands_late 0)
     sets_late (p ∷ ps) =
@@ -165,6 +168,7 @@ module _ (m : Datasheet) where
       asks_mark_late = asks_late draw t places es 4 (read m.mark_at.0 m.mark_at.1) in_doubt in_doubt (λ w. refl) refl _
           (λ bs. all_cond (Drawing 4) (unlike t.mark (m.mark_in (number bs))) _ _ (hands_late 4) (refreshes_late 4 (omega arith)))
 
+      -- the test for numbers, and the draw behind it
       numbers_end : (s : Way) → All (Drawing 5) s → All (Ends draw t places es (first_wrong ((eqb t.last 4294967295, NumbersSpent) ∷ []))) (if_numbers_left t s)
       numbers_end s p = one_test draw t places es (eqb t.last 4294967295) NumbersSpent tt None s p
 
@@ -194,10 +198,12 @@ module _ (m : Datasheet) where
       abbrev Looking : ℕ → List Step → Meter × Answer → Type 0
       Looking n = Late (look ch k) t places es n
 
+      -- a look leaves the meter
       looked_late : (n : ℕ) (g : Reading) → All (Looking n) (ends (t, looked g))
       looked_late n g = record { few = omega arith; end = (refl, tt) }
 
       module _ (is : t.condition ≡ ready) where
+        -- and it is made of a ready meter alone, which a transaction that fails leaves ready
         look_asks : (n : ℕ) (x : Request) (f : List ℕ → Way) → ((bs : List ℕ) → All (Looking n) (f bs)) → All (Looking (suc n)) (asks x (or_fails t ready ready (address_of x) f))
         look_asks n x f h = asks_late (look ch k) t places es n x ready ready (λ w. sym is) (sym is) f h
 
