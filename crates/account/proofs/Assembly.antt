@@ -122,5 +122,5 @@ module _ (m : Datasheet) where
 
 pub every_run : EveryRun
 every_run m law places number last t c es h l r =
-    subst (λ n. Statements m places n last t c es h) (serial_kept m r) (found m law places t.meter last t.last t.write_offs t.wanted t.mark c es h t.condition
+    subst (λ n. Statements m places n last t c es h) (serial_kept m law r) (found m law places t.meter last t.last t.write_offs t.wanted t.mark c es h t.condition
     (run_ok m law l r))

@@ -9,7 +9,9 @@ pub mod Runs
 pub mod Conserving
 pub mod Billing
 pub mod Assembly
-pub mod Manners
+pub mod CallsKeepRules
+pub mod CallsAreTrueToChip
+pub mod CallsLeave
 pub mod Wires
 pub mod LawfulSingle
 pub mod Benches

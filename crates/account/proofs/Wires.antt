@@ -2,7 +2,8 @@
 use Rattle.std.proofs.Common.{◌≡◌, ℕ, ◌^◌, ◌<◌, Bool, true, List, [], ◌∷◌, length, sym, refl, ap, ◌∙◌, subst, arith}
 use Rattle.std.proofs.lemmas.Bool.{both_ways}
 use Rattle.account.proofs.Assembly.{every_run}
-use Rattle.account.proofs.Manners.{word_kept}
+use Rattle.account.proofs.CallsAreTrueToChip.{always_true_to_chip}
+use Rattle.account.proofs.CallsKeepRules.{rules_always}
 use Rattle.account.specs.Calls.{Added, OwnScratch, scratch_after, Begun, CarriesRuns, Followed, MadeCall, MadeCycle, MadeSteps}
 use Rattle.chip.specs.Chip.{Request, address_of, fresh_chip, sized}
 use Rattle.account.specs.Dialogue.{Answer, Call, Meter, Way, asks, dialogue, ended, ends, new_meter, stepped}
@@ -33,7 +34,8 @@ module _ (m : Datasheet) {W : Type 0} {chip_of : W → State} {goes : Goes W} {p
     made_call {q} {t} {u} {places} {es} {s} {t'} {w} {es'} {s'} {r} st = record {
       made = st;
       chip = trip_along st.trip;
-      word = word_kept m law q t t' (chip_of u) (chip_of w) places es st.steps r st.follows (trip_along st.trip);
+      rules = rules_always m law q t t' places es st.steps r st.follows;
+      true_to_chip = always_true_to_chip m law q t t' (chip_of u) (chip_of w) places es st.steps r st.follows (trip_along st.trip);
       run = run;
     }
       where

@@ -16,7 +16,8 @@ use Rattle.wire.specs.declared.scripted.Scripted.{Scripted}
 use Rattle.wire.specs.Wire.{Goes, Passes}
 use Rattle.account.specs.Dialogue.{Meter, new_meter, Answer, refused, Way, Follows, Call, set_up, draw, book, write_off, look, bill_for, dialogue}
 use Rattle.account.specs.History.{History, cycle_came, carried_in, entries_after, happened_after, scratched, Reached}
-use Rattle.account.specs.Statements.{Statements, WordKept}
+use Rattle.account.specs.Statements.{Statements}
+use Rattle.account.specs.CallRules.{RulesKept, TrueToChip}
 
 -- what a helper of the code shows of a part of a dialogue
 pub record Followed {W : Type 0} (goes : Goes W) (s : Way) (u : W) (t' : Meter) (w : W) (r : Answer) : Type 0 where
@@ -52,13 +53,14 @@ pub record MadeSteps (m : Datasheet) {W : Type 0} (goes : Goes W) (q : Call) (t 
   pub own_scratch : OwnScratch q s
   pub the_scratch : s' ≡ scratch_after q steps s
 
--- and what its contract promises: the chip behind the wire went along with just these steps, the call keeps its word, and whatever history led here,
--- that history with just these steps leads on, and all statements hold of it
+-- and what its contract promises: the chip behind the wire went along with just these steps, the call keeps its rules and is true to that chip, and
+-- whatever history led here, that history with just these steps leads on, and all statements hold of it
 pub record MadeCall (m : Datasheet) {W : Type 0} (chip_of : W → State) (goes : Goes W) (q : Call) (t : Meter) (u : W) (places : ℕ)
     (es : List Entry) (s : List ℕ) (t' : Meter) (w : W) (es' : List Entry) (s' : List ℕ) (r : Answer) : Type 0 where
   pub made : MadeSteps m goes q t u places es s t' w es' s' r
   pub chip : Along m (chip_of u) made.steps (chip_of w)
-  pub word : WordKept m q t (chip_of u) made.steps t' (chip_of w) r
+  pub rules : RulesKept m q t places es made.steps t' r
+  pub true_to_chip : TrueToChip m q t (chip_of u) made.steps (chip_of w) r
   pub run : (number last : ℕ) (h : History) → last < 2 ^ 32 → Reached m places number last t (chip_of u) es h
       → Reached m places number last t' (chip_of w) es' (happened_after r (carried_in made.steps h))
       × Statements m places number last t' (chip_of w) es' (happened_after r (carried_in made.steps h))

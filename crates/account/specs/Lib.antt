@@ -3,6 +3,7 @@ pub mod Dialogue
 pub mod History
 pub mod Book
 pub mod Statements
+pub mod CallRules
 pub mod Calls
 pub mod Worked
 pub mod Theorems

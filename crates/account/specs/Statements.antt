@@ -1,20 +1,17 @@
--- What holds of every run and of every call.
-use Rattle.std.specs.Prelude.{◌≡◌, ℕ, ◌+◌, ◌-◌, ◌*◌, ◌%◌, ◌^◌, ◌<◌, ◌≤◌, Bool, true, false, cond, not, ◌&&◌, T, ◌⊎◌, ◌↔◌, List, [], ◌∷◌, ◌++◌, length, ℤ, pos, ◌+ℤ◌, ◌*ℤ◌, ◌≤ℤ◌, ◌<ℤ◌, slice_index_or}
+-- What holds of every run.
+use Rattle.std.specs.Prelude.{◌≡◌, ℕ, ◌+◌, ◌-◌, ◌*◌, ◌^◌, ◌<◌, ◌≤◌, Bool, true, false, cond, not, T, ◌↔◌, List, [], ◌∷◌, ◌++◌, length, ℤ, pos, ◌+ℤ◌, ◌*ℤ◌, ◌≤ℤ◌, ◌<ℤ◌, slice_index_or}
 use Rattle.chip.specs.declared.state.Settings.{Settings}
 use Rattle.chip.specs.declared.state.State.{State}
 use Rattle.chip.specs.declared.state.Running.{Running}
 use Rattle.chip.specs.Registers.{in_mask}
-use Rattle.chip.specs.Datasheet.{Datasheet, meaning}
+use Rattle.chip.specs.Datasheet.{Datasheet}
 use Rattle.chip.specs.declared.entry.Entry.{Entry}
-use Rattle.chip.specs.Chip.{channel, Request, address_of, spoilt, sums_of, entry_of}
+use Rattle.chip.specs.Chip.{spoilt, sums_of, entry_of}
 use Rattle.chip.specs.Laws.{Every, Lawful}
-use Rattle.chip.specs.declared.refusal.Refusal.{Refusal}
-use Rattle.chip.specs.declared.refusal.Refusal.TheVariants.{Limits, NotAcknowledged, Broken, SlipOut, NotReady, NumbersSpent, WrongSlip, Full, BadEntry, Unreadable, NoSlip}
-use Rattle.wire.specs.Wire.{Reply, answered, unacknowledged, broken}
-use Rattle.account.specs.Steps.{Step, Along}
+use Rattle.chip.specs.declared.refusal.Refusal.TheVariants.{Limits}
 use Rattle.book.specs.Bill.{bill_of, no_bill, bill, bill_limits, weight}
-use Rattle.account.specs.Dialogue.{Condition, ready, unfinished, in_doubt, slip_out, Meter, Reading, volts, millivolts, Answer, handed, looked, refused, Follows, Call, draw, look, dialogue, draws, looks}
-use Rattle.account.specs.History.{History, cycle_came, carried_out, booked, written_off, chip_after, Stretch, waits, got_entry, was_written_off, was_lost, Closed, account, product_at, sum_over, count_over, left_range, entries_after, Reached, is_refresh}
+use Rattle.account.specs.Dialogue.{Condition, ready, unfinished, in_doubt, slip_out, Meter}
+use Rattle.account.specs.History.{History, cycle_came, carried_out, booked, written_off, chip_after, Stretch, waits, got_entry, was_written_off, was_lost, Closed, account, product_at, sum_over, count_over, left_range, Reached}
 
 module _ (m : Datasheet) where
   -- THE ACCOUNT
@@ -213,96 +210,6 @@ module _ (m : Datasheet) where
   EveryRunOf = (places number last : ℕ) (t : Meter) (c : State) (es : List Entry) (h : History) → last < 2 ^ 32
       → Reached m places number last t c es h → Statements places number last t c es h
 
-  -- EACH CALL
-
-  -- all steps answered but the last, which asked q and got r
-  abbrev pub OnlyLastFailed : Request → Reply → List Step → Type 0
-  OnlyLastFailed q r [] = ⊥
-  OnlyLastFailed q r (s ∷ []) = (s.asked ≡ q) × (s.got ≡ r)
-  OnlyLastFailed q r (s ∷ (x ∷ ss)) = ((bs : List ℕ) × (s.got ≡ answered bs)) × OnlyLastFailed q r (x ∷ ss)
-
-  abbrev pub NothingDone : List Step → Meter → Meter → Type 0
-  NothingDone ss t t' = (ss ≡ []) × (t' ≡ t)
-
-  -- 2 and 3 are those of the call's own last transaction; any other number made none and left the meter
-  abbrev pub Owns : List Step → Meter → Meter → Refusal → Type 0
-  Owns ss t t' (NotAcknowledged w a) = (q : Request) × (address_of q ≡ a) × OnlyLastFailed q (unacknowledged w) ss
-  Owns ss t t' (Broken a) = (q : Request) × (address_of q ≡ a) × OnlyLastFailed q broken ss
-  Owns ss t t' Limits = NothingDone ss t t'
-  Owns ss t t' SlipOut = NothingDone ss t t'
-  Owns ss t t' NotReady = NothingDone ss t t'
-  Owns ss t t' NumbersSpent = NothingDone ss t t'
-  Owns ss t t' WrongSlip = NothingDone ss t t'
-  Owns ss t t' Full = NothingDone ss t t'
-  Owns ss t t' (BadEntry n) = NothingDone ss t t'
-  Owns ss t t' Unreadable = ⊥
-  Owns ss t t' NoSlip = ⊥
-
-  abbrev pub RefusalsOwned : Type 0
-  RefusalsOwned = (q : Call) (t t' : Meter) (places : ℕ) (es : List Entry) (ss : List Step) (r : Refusal)
-      → Follows (dialogue m q t places es) ss (t', refused r) → Owns ss t t' r
-
-  abbrev pub refresh_carried : List Step → Bool
-  refresh_carried [] = false
-  refresh_carried (s ∷ ss) = cond (is_refresh m s.asked && s.carried) true (refresh_carried ss)
-
-  -- a draw whose REFRESH was carried out, whatever it answered, put the settings in force that were wanted at that draw
-  abbrev pub Obeys : Type 0
-  Obeys = (t t' : Meter) (c c' : State) (ss : List Step) (r : Answer) → m.offers t.wanted ≡ true → Follows (draws m t) ss (t', r)
-      → Along m c ss c' → refresh_carried ss ≡ true → meaning m c'.active ≡ t.wanted
-
-  abbrev pub Five : Type 0
-  Five = (t t' : Meter) (ss : List Step) (r : Answer) → Follows (draws m t) ss (t', r) → length ss ≤ 5
-
-  abbrev pub all_answered : List Step → Type 0
-  all_answered ss = Every (λ s. (bs : List ℕ) × (s.got ≡ answered bs)) ss
-
-  -- a draw of which no transaction fails hands out the next slip, unless it is refused by 4 or 6
-  abbrev pub Progress : Type 0
-  Progress = (t t' : Meter) (ss : List Step) (r : Answer) → Follows (draws m t) ss (t', r) → all_answered ss
-      → (r ≡ refused SlipOut) ⊎ ((r ≡ refused NumbersSpent) ⊎ (r ≡ handed (record { meter = t.meter; draw = t.last + 1 })))
-
-  -- the latest codes, 16 bits each, on a channel counted from 0
-  abbrev pub latest_bus : State → ℕ → ℕ
-  latest_bus c i = (channel i c.running).latest.bus % 65536
-
-  abbrev pub latest_sense : State → ℕ → ℕ
-  latest_sense c i = (channel i c.running).latest.sense % 65536
-
-  -- a look that answers gives the latest code, by the polarity in force, and leaves the meter and the running part
-  pub record Seen (c c' : State) (t t' : Meter) (ch q : ℕ) (g : Reading) : Type 0 where
-    pub bus : q ≡ 0 → g ≡ volts (latest_bus c (ch - 1))
-    pub sense : q ≡ 1 → g ≡ millivolts (in_mask (m.two_way c.active) (ch - 1)) (latest_sense c (ch - 1))
-    pub running : c'.running ≡ c.running
-    pub meter : t' ≡ t
-
-  abbrev pub LooksTrue : Type 0
-  LooksTrue = (t t' : Meter) (c c' : State) (ch q : ℕ) (ss : List Step) (g : Reading) → Follows (looks m t ch q) ss (t', looked g)
-      → Along m c ss c' → Seen c c' t t' ch q g
-
-  pub record EveryCallOf : Type 0 where
-    pub refusals_owned : RefusalsOwned
-    pub obeys : Obeys
-    pub five : Five
-    pub progress : Progress
-    pub looks_true : LooksTrue
-
--- the same of one call: what a refusal leaves; of a draw, at most five transactions, the wanted settings in force, and progress; of a look, the latest code
-pub record WordKept (m : Datasheet) (q : Call) (t : Meter) (c : State) (ss : List Step) (t' : Meter) (c' : State) (r : Answer) : Type 0 where
-  pub refusal : (e : Refusal) → r ≡ refused e → Owns m ss t t' e
-  pub five : q ≡ draw → length ss ≤ 5
-  pub obeyed : q ≡ draw → m.offers t.wanted ≡ true → refresh_carried m ss ≡ true → meaning m c'.active ≡ t.wanted
-  pub progress : q ≡ draw → all_answered m ss
-      → (r ≡ refused SlipOut) ⊎ ((r ≡ refused NumbersSpent) ⊎ (r ≡ handed (record { meter = t.meter; draw = t.last + 1 })))
-  pub seen : (ch k : ℕ) (g : Reading) → q ≡ look ch k → r ≡ looked g → Seen m c c' t t' ch k g
-
--- earlier entries never change
-abbrev pub BookGrows : Type 0
-BookGrows = (r : Answer) (es : List Entry) → (added : List Entry) × (entries_after r es ≡ es ++ added) × (length added ≤ 1)
-
 -- over every lawful make
 abbrev pub EveryRun : Type 0
 EveryRun = (m : Datasheet) → Lawful m → EveryRunOf m
-
-abbrev pub EveryCall : Type 0
-EveryCall = (m : Datasheet) → Lawful m → EveryCallOf m

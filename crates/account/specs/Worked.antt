@@ -13,7 +13,8 @@ use Rattle.makes.specs.Figures.{Figures, on_one}
 use Rattle.book.specs.Bill.{bill, bill_of}
 use Rattle.account.specs.Dialogue.{Meter, new_meter, handed, entered, refused, Follows, book, dialogue, draws, in_doubt}
 use Rattle.account.specs.History.{History, Reached, carried_in, happened_after}
-use Rattle.account.specs.Statements.{Unspoilt, refresh_carried}
+use Rattle.account.specs.CallRules.{refresh_carried}
+use Rattle.account.specs.Statements.{Unspoilt}
 use Rattle.makes.specs.Pac193x.{pac193x}
 use Rattle.makes.specs.Pac194x.{pac194x}
 

@@ -2,9 +2,10 @@
 #![tactic(auto)]
 
 ghost use Rattle.account.specs.Book.{BooksKeep};
+ghost use Rattle.account.specs.CallRules.{EveryCall};
 ghost use Rattle.account.specs.Calls.{CarriesRuns, CallsExact};
 ghost use Rattle.account.specs.Single.{single};
-ghost use Rattle.account.specs.Statements.{EveryRun, EveryCall, BookGrows};
+ghost use Rattle.account.specs.Statements.{EveryRun};
 ghost use Rattle.account.specs.Theorems.{RunsThereAre};
 ghost use Rattle.account.specs.Worked.{Worked, WhyFresh};
 ghost use Rattle.chip.specs.Laws.{Lawful};
@@ -17,8 +18,11 @@ pub fn every_run_is_accounted()
     ensures { EveryRun }
 {}
 
-/// Over every lawful make: what each refusal leaves, that a draw obeys the set-up, makes at most five transactions, and goes on, and that a look
-/// answers the latest code.
+/// Over every lawful make, whatever the meter, the book and the chip stand at, and whatever the wire does. The first test of a call that is wrong refuses
+/// it, by that test's number: nothing is sent, and the meter stays. With nothing wrong the call is taken exactly where every transaction was answered;
+/// else 2 or 3 is that of its last transaction, and of the meter only the condition may be another, and only after a draw. A call that is taken changes
+/// of the meter what that call is to change, and nothing else. A draw asks for five transactions at most, and where its REFRESH was carried out the
+/// wanted settings are in force. A look shows the latest code, and a booking gives the entry of the chip's image, whatever image that is.
 pub fn every_call_keeps_its_word()
     ensures { EveryCall }
 {}
@@ -36,11 +40,6 @@ pub fn calls_are_exact<M: Make>()
 /// A booking fills the next free place and leaves every other.
 pub fn books_keep_what_they_hold()
     ensures { BooksKeep }
-{}
-
-/// Earlier entries never change.
-pub fn the_book_only_grows()
-    ensures { BookGrows }
 {}
 
 /// A make of one channel with other addresses keeps the laws, so nothing rests on the makes with four.

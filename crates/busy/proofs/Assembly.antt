@@ -1,19 +1,21 @@
 -- A busy run has a plain run of the same account, and so all that holds of plain runs.
 use Rattle.std.proofs.Common.{◌≡◌, ℕ, Bool, true, cond, ◌&&◌, List, [], ◌∷◌, length, sym, refl, ap, ◌∙◌, subst, ap₂}
-use Rattle.chip.specs.Chip.{Request, read, send, write}
+use Rattle.chip.specs.Chip.{Request, entry_of, read, send, write}
 use Rattle.chip.specs.Datasheet.{Datasheet, meaning}
-use Rattle.chip.specs.Laws.{Every, Lawful}
+use Rattle.chip.specs.Laws.{Every, Lawful, Sound}
 use Rattle.chip.specs.declared.entry.Entry.{Entry}
 use Rattle.chip.specs.declared.state.Codes.{Codes}
 use Rattle.chip.specs.declared.state.State.{State}
 use Rattle.account.proofs.Assembly.{every_run}
-use Rattle.account.proofs.Manners.{every_call}
-use Rattle.account.specs.Dialogue.{Follows, Meter, dialogue, draws, looks}
+use Rattle.account.proofs.CallsAreTrueToChip.{always_true_to_chip}
+use Rattle.account.proofs.CallsKeepRules.{rules_always}
+use Rattle.account.specs.CallRules.{refresh_carried}
+use Rattle.account.specs.Dialogue.{Follows, Meter, book, books, dialogue, draw, draws, entered, look, looked, looks}
 use Rattle.account.specs.History.{History, Reached, account, called, carried_in, carried_out, cycle_came, cycle_passed, entries_after, happened_after, is_refresh, made}
-use Rattle.account.specs.Statements.{Accounted, HeldAt, Numbered, RunsWell, Settled, Statements, Steady, given, off_count, refresh_carried}
+use Rattle.account.specs.Statements.{Accounted, HeldAt, Numbered, RunsWell, Settled, Statements, Steady, given, off_count}
 use Rattle.account.specs.Steps.{Along, Step, goes_on, stays}
 use Rattle.busy.proofs.Calms.{calm_call, calm_draws, calm_look}
-use Rattle.busy.proofs.Chips.{cycled_by_active}
+use Rattle.busy.proofs.Chips.{cycled_by_active, cycled_by_image}
 use Rattle.busy.proofs.Histories.{alike, alike_came, alike_carried, alike_happened, alike_on, alike_then, happened_past}
 use Rattle.busy.proofs.Moving.{moved_out}
 use Rattle.busy.specs.Events.{Event, Through, after_send, at_end, before_send, by_conversion, by_transaction, conversion, cycles_in, happened_in, just, steps_in, transaction}
@@ -138,13 +140,21 @@ pub every_busy_call : EveryBusyCall
 every_busy_call m law = record {
   obeys = λ t t' c c' vs r ok f th yes-refresh.
       let k = moved_out m (draws m t) vs (calm_draws m t law t.condition) f th in
-      let obeyed = (every_call m law).obeys t t' (cycled_by m (before_send vs) c) k.left k.steps r ok k.follows k.along
-      (refresh_told m k.steps (steps_in vs) k.requests ∙ yes-refresh) in
+      let true_to_chip = always_true_to_chip m law draw t t' (cycled_by m (before_send vs) c) k.left 0 [] k.steps r k.follows k.along in
+      let obeyed = true_to_chip.obeyed refl ok (refresh_told m k.steps (steps_in vs) k.requests ∙ yes-refresh) in
       ap (meaning m) (ap (λ x. x.active) (sym k.behind) ∙ cycled_by_active m (after_send vs) k.left) ∙ obeyed;
   looks_true = λ t t' c c' ch q vs g f th.
       let k = moved_out m (looks m t ch q) vs (calm_look m t law ch q) f th in
-      let seen = (every_call m law).looks_true t t' (cycled_by m (before_send vs) c) k.left ch q k.steps g k.follows k.along in
-      record { bus = seen.bus; sense = seen.sense; meter = seen.meter };
+      let seen = (always_true_to_chip m law (look ch q) t t' (cycled_by m (before_send vs) c) k.left 0 [] k.steps (looked g) k.follows k.along).told in
+      record { bus = seen.bus; sense = seen.sense; meter = (rules_always m law (look ch q) t t' 0 [] k.steps (looked g) k.follows).reason };
+  books_true = λ alone t t' c c' p places es n vs e f th.
+      let k = moved_out m (books m t p places (length es) n) vs (calm_call m t law alone (book p n) places es) f th in
+      let told = (always_true_to_chip m law (book p n) t t' (cycled_by m (before_send vs) c) k.left places es k.steps (entered e) k.follows k.along).told in
+      let same = cycled_by_image m (before_send vs) c in
+      record {
+        entry = λ sound. told.entry (subst (λ g. Sound m g.running) (sym same) sound) ∙ ap (λ g. entry_of m g p.draw) same;
+        chip = sym k.behind ∙ ap (cycled_by m (after_send vs)) told.chip;
+      };
 }
 
 pub busy_is_plain : BusyIsPlain

@@ -1,14 +1,16 @@
 -- What holds of every busy run.
-use Rattle.std.specs.Prelude.{◌≡◌, ℕ, ◌-◌, ◌^◌, ◌<◌, true, List}
+use Rattle.std.specs.Prelude.{◌≡◌, ℕ, ◌-◌, ◌^◌, ◌<◌, true, List, length}
 use Rattle.chip.specs.declared.state.State.{State}
 use Rattle.chip.specs.declared.entry.Entry.{Entry}
 use Rattle.chip.specs.Registers.{in_mask}
 use Rattle.chip.specs.Datasheet.{Datasheet, meaning}
-use Rattle.chip.specs.Laws.{Lawful}
-use Rattle.account.specs.Dialogue.{Meter, Reading, volts, millivolts, Answer, looked, Follows, Call, dialogue, draws, looks}
+use Rattle.chip.specs.Chip.{entry_of}
+use Rattle.chip.specs.Laws.{Lawful, Sound}
+use Rattle.account.specs.Dialogue.{Meter, Reading, volts, millivolts, Answer, looked, entered, Slip, Follows, Call, dialogue, draws, books, looks}
 use Rattle.account.specs.History.{History, Reached}
-use Rattle.account.specs.Statements.{Statements, latest_bus, latest_sense, refresh_carried}
-use Rattle.busy.specs.Events.{Event, steps_in, before_send, Through}
+use Rattle.account.specs.CallRules.{latest_bus, latest_sense, refresh_carried}
+use Rattle.account.specs.Statements.{Statements}
+use Rattle.busy.specs.Events.{Event, steps_in, before_send, after_send, Through}
 use Rattle.busy.specs.Runs.{BusyReached}
 use Rattle.busy.specs.Plain.{ImageAlone, Alike, PlainCall, cycled_by}
 
@@ -44,6 +46,15 @@ module _ (m : Datasheet) where
   BusyLooksTrue = (t t' : Meter) (c c' : State) (ch q : ℕ) (vs : List Event) (g : Reading) → Follows (looks m t ch q) (steps_in vs) (t', looked g)
       → Through m c vs c' → SeenAt (cycled_by m (before_send vs) c) t t' ch q g
 
+  -- a booking that is taken gives the image's entry under the slip's number, wherever cycles come, and nothing but those cycles changes the chip
+  pub record EnteredAt (c c' : State) (p : Slip) (vs : List Event) (e : Entry) : Type 0 where
+    pub entry : Sound m c.image.running → e ≡ entry_of m c.image p.draw
+    pub chip : c' ≡ cycled_by m (after_send vs) (cycled_by m (before_send vs) c)
+
+  abbrev pub BusyBooksTrue : Type 0
+  BusyBooksTrue = (t t' : Meter) (c c' : State) (p : Slip) (places : ℕ) (es : List Entry) (scratch : ℕ) (vs : List Event) (e : Entry)
+      → Follows (books m t p places (length es) scratch) (steps_in vs) (t', entered e) → Through m c vs c' → EnteredAt c c' p vs e
+
   -- and a run whose cycles come between the calls is one of these
   abbrev pub PlainIsBusyOf : Type 0
   PlainIsBusyOf = (places number last : ℕ) (t : Meter) (c : State) (es : List Entry) (h : History)
@@ -57,6 +68,8 @@ EveryBusyRun = (m : Datasheet) → Lawful m → ImageAlone m → EveryBusyRunOf 
 pub record EveryBusyCallOf (m : Datasheet) : Type 0 where
   pub obeys : BusyObeys m
   pub looks_true : BusyLooksTrue m
+  -- where the image stands by itself
+  pub books_true : ImageAlone m → BusyBooksTrue m
 
 abbrev pub EveryBusyCall : Type 0
 EveryBusyCall = (m : Datasheet) → Lawful m → EveryBusyCallOf m

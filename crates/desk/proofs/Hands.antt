@@ -1,6 +1,7 @@
 -- The slip in hand fits after each call that leaves it there.
-use Rattle.std.proofs.Common.{◌≡◌, ℕ, Bool, true, false, leb, List, [], length, Some, None, Ok, Err, Option, Result, sym, refl, ap₂, subst, arith}
+use Rattle.std.proofs.Common.{◌≡◌, ℕ, Bool, true, false, leb, List, [], length, Some, None, Ok, Err, Option, Result, sym, refl, ap₂, subst}
 use Rattle.std.proofs.lemmas.Bool.{leb-false, leb-true}
+use Rattle.account.specs.CallRules.{RulesKept}
 use Rattle.account.specs.Calls.{MadeBookCall}
 use Rattle.account.specs.Dialogue.{Answer, Call, Follows, book, dialogue, draw, fits_slip, given_up, handed, look, refused, set_up, write_off, wrote_off}
 use Rattle.account.specs.Dialogue as machine
@@ -9,7 +10,7 @@ use Rattle.book.specs.Book.{Pages}
 use Rattle.chip.specs.Datasheet.{Datasheet, Wanted}
 use Rattle.chip.specs.declared.refusal.Refusal.{Refusal}
 use Rattle.chip.specs.declared.state.State.{State}
-use Rattle.desk.proofs.Slips.{drawn_open, draw_refused, look_leaves_open, refused_booking_leaves_open, set_up_leaves_open, write_off_taken}
+use Rattle.desk.proofs.Slips.{drawn_open, draw_refused, look_leaves_open, refusal_leaves_open, set_up_leaves_open, write_off_taken}
 use Rattle.desk.specs.Hand.{fits_in_hand}
 use Rattle.desk.specs.Promises.{SlipWrittenOff, WriteOffMade}
 use Rattle.desk.specs.Standing.{Standing, hand_of}
@@ -23,28 +24,24 @@ use Rattle.wire.specs.Wire.{Goes}
 -- at rest the wire is as it was
 stayed : {V : Type 0} {goes : Goes V} {u w : V} {ss : List Step} → ss ≡ [] → Trip goes u ss w → w ≡ u
 stayed e at_rest = refl
-stayed e (onward g t) = let z : ◌≡◌ {A = ℕ} 0 1 = cc in absurd (omega arith)
+stayed e (onward g t) = cc
 
 module _ (m : Datasheet) {V : Type 0} (chip_of : V → State) (goes : Goes V) where
-  -- the steps of a call that takes no book
-  pub record Walked (q : Call) (t : machine.Meter) (u : V) (t' : machine.Meter) (w : V) (r : Answer) : Type 0 where
-    pub steps : List Step
-    pub follows : Follows (dialogue m q t 0 []) steps (t', r)
-    pub trip : Trip goes u steps w
-
-  walked : {q : Call} {t : machine.Meter} {u : V} {t' : machine.Meter} {w : V} {r : Answer} → MadeAlone m chip_of goes q t u t' w r → Walked q t u t' w r
-  walked a = let c = (a.made 0 [] []).made in record { steps = c.steps; follows = c.follows; trip = c.trip }
+  -- the rules of a call that takes no book
+  rules : {q : Call} {t : machine.Meter} {u : V} {t' : machine.Meter} {w : V} {r : Answer} → (a : MadeAlone m chip_of goes q t u t' w r)
+      → RulesKept m q t 0 [] (a.made 0 [] []).made.steps t' r
+  rules a = (a.made 0 [] []).rules
 
   -- a slip in hand of an open meter stays open through a set-up, a look and a draw
   pub set_up_keeps : (t t' : Meter V) (hand : Option Slip) (x : Wanted) {u w : V} {r : Answer} → fits_in_hand t hand ≡ true
       → MadeAlone m chip_of goes (set_up x) (meter_of t) u (meter_of t') w r → fits_in_hand t' hand ≡ true
   set_up_keeps t t' None x fits a = refl
-  set_up_keeps t t' (Some p) x fits a = set_up_leaves_open m (meter_of t) (slip_of p) fits x (walked a).follows
+  set_up_keeps t t' (Some p) x fits a = set_up_leaves_open m (slip_of p) fits x _ (rules a)
 
   looked_at : (t t' : Meter V) (hand : Option Slip) (ch q : ℕ) {u w : V} {r : Answer} → fits_in_hand t hand ≡ true
       → MadeAlone m chip_of goes (look ch q) (meter_of t) u (meter_of t') w r → fits_in_hand t' hand ≡ true
   looked_at t t' None ch q fits a = refl
-  looked_at t t' (Some p) ch q fits a = look_leaves_open m (meter_of t) (slip_of p) fits ch q (walked a).follows
+  looked_at t t' (Some p) ch q fits a = look_leaves_open m (slip_of p) fits ch q _ (rules a)
 
   pub look_keeps : (t t' : Meter V) (hand : Option Slip) (ch q : ℕ) (u w : V) (r : Result Reading Refusal) → fits_in_hand t hand ≡ true
       → LookMade m chip_of goes ch q (meter_of t) u (meter_of t') w r → fits_in_hand t' hand ≡ true
@@ -54,19 +51,18 @@ module _ (m : Datasheet) {V : Type 0} (chip_of : V → State) (goes : Goes V) wh
   pub draw_keeps : (t t' : Meter V) (hand : Option Slip) {u w : V} {r : Answer} → fits_in_hand t hand ≡ true
       → MadeAlone m chip_of goes draw (meter_of t) u (meter_of t') w r → fits_in_hand t' hand ≡ true
   draw_keeps t t' None fits a = refl
-  draw_keeps t t' (Some p) fits a =
-      subst (λ x. fits_slip x (slip_of p) ≡ true) (sym (draw_refused m (meter_of t) (slip_of p) fits (walked a).follows).0) fits
+  draw_keeps t t' (Some p) fits a = subst (λ x. fits_slip x (slip_of p) ≡ true) (sym (draw_refused m (slip_of p) fits (rules a)).0) fits
 
   -- a draw that hands out a slip finds no other in hand
   pub hand_was_empty : (t t' : Meter V) (hand : Option Slip) {u w : V} {p : machine.Slip} → fits_in_hand t hand ≡ true
       → MadeAlone m chip_of goes draw (meter_of t) u (meter_of t') w (handed p) → hand ≡ None
   hand_was_empty t t' None fits a = refl
-  hand_was_empty t t' (Some x) fits a = let e = (draw_refused m (meter_of t) (slip_of x) fits (walked a).follows).1 in let z : ◌≡◌ {A = ℕ} 0 1 = cc in absurd (omega arith)
+  hand_was_empty t t' (Some x) fits a = let e = (draw_refused m (slip_of x) fits (rules a)).1 in cc
 
   -- the slip of a draw is the meter's open one, and names the meter
   pub drawn_fits : (t t' : Meter V) (p : Slip) {u w : V} → MadeAlone m chip_of goes draw (meter_of t) u (meter_of t') w (handed (slip_of p))
       → (slip_of p).meter ≡ (meter_of t).meter × (fits_slip (meter_of t') (slip_of p) ≡ true)
-  drawn_fits t t' p a = let h = drawn_open m (meter_of t) (walked a).follows in (h.meter, h.fits)
+  drawn_fits t t' p a = let h = drawn_open m (rules a) in (h.meter, h.fits)
 
   -- a refused booking of the slip leaves it open
   pub refused_booking_keeps : (t t' : Meter V) (p : Slip) (n : ℕ) {u w : V} {b b' : Pages} {s s' : List ℕ} (e : Refusal) → fits_slip (meter_of t) (slip_of p) ≡ true
@@ -74,20 +70,19 @@ module _ (m : Datasheet) {V : Type 0} (chip_of : V → State) (goes : Goes V) wh
   refused_booking_keeps t t' p n {b = b} e fits a = on (leb b.filled (length b.places)) refl
     where
       on : (x : Bool) → leb b.filled (length b.places) ≡ x → fits_slip (meter_of t') (slip_of p) ≡ true
-      on true is = refused_booking_leaves_open m (meter_of t) (slip_of p) fits (slip_of p) (length b.places) _ n (a.made (leb-true _ _ is)).made.follows
+      on true is = refusal_leaves_open m (slip_of p) fits (λ same. cc) (a.made (leb-true _ _ is)).rules
       on false is = subst (λ x. fits_slip x (slip_of p) ≡ true) (sym (a.overfull (leb-false _ _ is)).1) fits
 
   -- a write-off of the open slip is taken, and sends nothing
   pub given_up_so : (t t' : Meter V) (p : Slip) {u w : V} {r : Answer} → fits_slip (meter_of t) (slip_of p) ≡ true
       → MadeAlone m chip_of goes (write_off (slip_of p)) (meter_of t) u (meter_of t') w r → (meter_of t' ≡ wrote_off (meter_of t)) × (r ≡ given_up) × (w ≡ u)
   given_up_so t t' p fits a =
-      let k = walked a in
-      let e = write_off_taken (meter_of t) (slip_of p) fits k.follows in
-      (e.1, e.2, stayed e.0 k.trip)
+      let e = write_off_taken m (slip_of p) fits _ (rules a) in
+      (e.1, e.2, stayed e.0 (a.made 0 [] []).made.trip)
 
   pub never_refused : (t t' : Meter V) (p : Slip) {u w : V} {e : Refusal} → fits_slip (meter_of t) (slip_of p) ≡ true
       → MadeAlone m chip_of goes (write_off (slip_of p)) (meter_of t) u (meter_of t') w (refused e) → ⊥
-  never_refused t t' p fits a = let h = (given_up_so t t' p fits a).1 in let z : ◌≡◌ {A = ℕ} 0 1 = cc in omega arith
+  never_refused t t' p fits a = let h = (given_up_so t t' p fits a).1 in cc
 
 -- the machine's slip, under the meter's number and the draw number that was answered
 pub named_so : (p : Slip) {meter draw : ℕ} → (slip_of p).meter ≡ meter → draw ≡ p.draw → slip_of p ≡ record { meter = meter; draw = draw }

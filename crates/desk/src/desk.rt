@@ -1,7 +1,9 @@
-//! A meter over a scripted wire, with its book, a scratch, and the slip that is in hand. The struct stands alone in this file, since its ghost field
-//! imports whatever the file imports.
+//! A meter over a scripted wire, with its book, a scratch, and the slip that is in hand. The struct stands alone in this file, since its ghost fields
+//! import whatever the file imports.
 ghost use Rattle.std.specs.Prelude.{◌≡◌, true};
+ghost use Rattle.std.specs.Option.{ForSome};
 ghost use Rattle.desk.specs.Hand.{fits_in_hand};
+ghost use Rattle.meter.specs.Views.{IsUnspent};
 
 use book::book::Book;
 use meter::meter::Meter;
@@ -22,4 +24,6 @@ pub struct Desk<'a, W> {
     slip: Option<Slip>,
     // a slip in hand is the meter's open one
     ghost fits: { fits_in_hand meter slip ≡ true },
+    // and neither booked nor written off
+    ghost unspent: { ForSome slip IsUnspent },
 }

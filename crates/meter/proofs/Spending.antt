@@ -17,6 +17,9 @@ use Rattle.chip.specs.declared.refusal.Refusal.{Refusal}
 use Rattle.chip.specs.declared.refusal.Refusal.TheVariants.{Full, Limits, WrongSlip}
 use Rattle.chip.specs.declared.state.State.{State}
 use Rattle.meter.specs.Parts.{AllGathered, Laid}
+use Rattle.meter.specs.Views.{GivenBack, IsUnspent}
+use Rattle.meter.specs.declared.slip.Slip as code
+use Rattle.meter.specs.declared.slip.Unspent.{Unspent}
 use Rattle.wire.specs.Wire.{Goes, IsWire, Passes}
 
 module _ {W : Type 0} (goes : Goes W) (t : Meter) (p : Slip) {u : W} where
@@ -25,6 +28,10 @@ module _ {W : Type 0} (goes : Goes W) (t : Meter) (p : Slip) {u : W} where
 
   pub off_taken : fits_slip t p ≡ true → Followed goes (writes_off t p) u (wrote_off t) u given_up
   off_taken e = rw e ends_followed
+
+-- what was refused is the slip that was given, so it is as unspent as that
+pub given_back : {p : code.Slip} {b : Unspent} → b.slip ≡ p → GivenBack p b
+given_back is = record { same = is; unspent = λ u. subst IsUnspent (sym is) u }
 
 -- the tests of a booking, in their order
 module _ (m : Datasheet) (t : Meter) (p : Slip) (places filled scratch : ℕ) where

@@ -1,5 +1,5 @@
 -- The meter's code, as the machine's definitions speak of it.
-use Rattle.std.specs.Prelude.{◌≡◌, Ok, Err, Result}
+use Rattle.std.specs.Prelude.{◌≡◌, false, Ok, Err, Result}
 use Rattle.chip.specs.declared.entry.Entry.{Entry}
 use Rattle.chip.specs.declared.refusal.Refusal.{Refusal}
 use Rattle.chip.specs.Driver.{wanted_of}
@@ -47,7 +47,16 @@ abbrev pub write_off_answer : Result Unit Unspent → Answer
 write_off_answer (Ok u) = given_up
 write_off_answer (Err b) = refused b.refusal
 
+-- neither booked nor written off
+abbrev pub IsUnspent : Slip → Type 0
+IsUnspent p = p.spent ≡ false
+
+-- the very slip that was given, as unspent as it was
+pub record GivenBack (p : Slip) (b : Unspent) : Type 0 where
+  pub same : b.slip ≡ p
+  pub unspent : IsUnspent p → IsUnspent b.slip
+
 -- a refused booking or write-off gives back the slip that it was given
 abbrev pub GivesBack : {A : Type 0} → Slip → Result A Unspent → Type 0
 GivesBack p (Ok a) = Unit {0}
-GivesBack p (Err b) = b.slip ≡ p
+GivesBack p (Err b) = GivenBack p b

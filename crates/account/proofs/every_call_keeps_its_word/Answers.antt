@@ -1,4 +1,4 @@
-use Rattle.account.proofs.Manners.{every_call}
+use Rattle.account.proofs.CallsAreTrueToChip.{every_call}
 use Rattle.account.proofs.every_call_keeps_its_word.Goals as goal
 
 pub returns : goal.returns

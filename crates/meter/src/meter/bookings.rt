@@ -33,7 +33,7 @@ impl<W: Wire> Meter<W> {
         slip.meter() == self.number && self.settle(Call::Spend(slip.draw())).is_ok()
     }
 
-    /// Gives the stretch that waits its entry, at the next free place of the book. Refused, it gives the slip back.
+    /// Gives the stretch that waits its entry, at the next free place of the book. Refused, it gives the slip back, as unspent as it was.
     pub fn book(
         &mut self,
         slip: Slip,
@@ -80,7 +80,7 @@ impl<W: Wire> Meter<W> {
         Ok(W::Make::entry_in(&replies[..count], slip.draw()))
     }
 
-    /// Gives the stretch that waits up, and counts one. Refused, it gives the slip back.
+    /// Gives the stretch that waits up, and counts one. Refused, it gives the slip back, as unspent as it was.
     pub fn write_off(&mut self, slip: Slip) -> Result<(), Unspent>
         ensures made { MadeAlone W.Make.Make.sheet W.Wire.chip W.Wire.goes (write_off (slip_of slip)) (meter_of self.old) self.old.wire (meter_of self.new) self.new.wire (write_off_answer result) }
         ensures back { GivesBack slip result }

@@ -13,8 +13,9 @@ invariant_of-self-in-Err g c =
     let hand : c.args.self.now.slip ≡ Some c.in_ok-slip.slip = sym c.take.ensures.value ∙ c.in_ok-slip.ensures.ok_part in
     let fits = subst (λ h. fits_in_hand c.args.self.now.meter h ≡ true) hand c.args.self.now.fits in
     record {
-      fits = subst (λ p. fits_slip (meter_of c.book.new.self) (slip_of p) ≡ true) (sym c.in-Err.ensures.back)
+      fits = subst (λ p. fits_slip (meter_of c.book.new.self) (slip_of p) ≡ true) (sym c.in-Err.ensures.back.same)
           (refused_booking_keeps g.W.Make.Make.sheet _ _ c.args.self.now.meter c.book.new.self c.in_ok-slip.slip _ c.in-Err.field-0.refusal fits c.in-Err.ensures.made);
+      unspent = λ p is. let back = c.in-Err.ensures.back.unspent (c.args.self.now.unspent _ hand) in cc;
     }
 
 pub returns-in-Ok-clause-made : goal.returns-in-Ok-clause-made
@@ -41,4 +42,4 @@ returns-in-Err-clause-made g c =
       scratch = c.book.new.scratch;
     } in
     subst (λ h. BookMade g.W.Make.Make.sheet g.W.Wire.chip g.W.Wire.goes (hand_of h) (standing c.args.self.now) (Err c.in-Err.field-0.refusal) after) (sym hand)
-    (record { made = c.in-Err.ensures.made; hand = ap (λ p. Some (slip_of p)) c.in-Err.ensures.back })
+    (record { made = c.in-Err.ensures.made; hand = ap (λ p. Some (slip_of p)) c.in-Err.ensures.back.same })

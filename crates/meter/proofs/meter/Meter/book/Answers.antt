@@ -3,7 +3,7 @@ use Rattle.std.proofs.lemmas.Bool.{lt-leb}
 use Rattle.account.specs.Calls.{MadeBookCall}
 use Rattle.account.specs.Dialogue.{at, book, entered, ready, refused}
 use Rattle.book.specs.Book.{pages, put}
-use Rattle.meter.proofs.Spending.{put_so}
+use Rattle.meter.proofs.Spending.{given_back, put_so}
 use Rattle.meter.proofs.meter.Meter.book.Goals as goal
 use Rattle.meter.specs.Views.{meter_of, slip_of}
 
@@ -33,6 +33,6 @@ returns-in-Err g c =
           (meter_of c.entry_for.new.self) c.entry_for.new.self.wire b c.entry_for.new.scratch (refused e)) (sym c.refused.ensures.1)
           (subst (λ t'. MadeBookCall m g.W.Wire.chip g.W.Wire.goes (book (slip_of c.args.slip) (length s)) (meter_of c.args.self.now) c.args.self.now.wire b s
           t' c.entry_for.new.self.wire b c.entry_for.new.scratch (refused c.in-Err.refusal)) (sym c.in-Err.ensures.meter) c.in-Err.ensures.found);
-      back = c.refused.ensures.0;
+      back = given_back c.refused.ensures.0;
       same = refl;
     }

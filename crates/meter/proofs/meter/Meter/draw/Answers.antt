@@ -16,37 +16,37 @@ none_added : (r : Result Slip Refusal) (es : List Entry) → es ≡ entries_afte
 none_added (Ok p) es = refl
 none_added (Err e) es = refl
 
-pub returns-then-self : goal.returns-then-self
-returns-then-self g c =
+pub returns-then-self-clause-made : goal.returns-then-self-clause-made
+returns-then-self-clause-made g c =
     let m = g.W.Make.Make.sheet in
     let t = meter_of c.args.self.now in
     let w = some_way m t c.args.self.now.condition c.in_ok-way.way (sym c.in_ok-way.ensures) in
     made_alone m g.met.W.Wire.meant g.met.W.Make.Make.lawful draw
     (λ places es. rw w.1 (numbers_spent g.W.Wire.goes t w.0 c.if-self.true)) (λ s. tt) (λ ss s. refl) (λ es. refl)
 
-pub returns-in_err-way : goal.returns-in_err-way
-returns-in_err-way g c =
+pub returns-in_err-way-clause-made : goal.returns-in_err-way-clause-made
+returns-in_err-way-clause-made g c =
     let m = g.W.Make.Make.sheet in
     let t = meter_of c.args.self.now in
     let p = err_from_is_err_and c.from_residual.result c.from_residual.ensures.1 in
     rw (p.1, p.2) (made_alone m g.met.W.Wire.meant g.met.W.Make.Make.lawful draw
     (λ places es. rw (draw_refused m t c.args.self.now.condition _ (sym c.in_err-way.ensures)) ends_followed) (λ s. tt) (λ ss s. refl) (λ es. refl))
 
-pub returns-in-AskMark : goal.returns-in-AskMark
-returns-in-AskMark g c =
+pub returns-in-AskMark-clause-made : goal.returns-in-AskMark-clause-made
+returns-in-AskMark-clause-made g c =
     let m = g.W.Make.Make.sheet in
     let t = meter_of c.args.self.now in
     let doubt = asks_only_in_doubt m t c.args.self.now.condition (sym c.in_ok-way.ensures ∙ ap Ok c.in-AskMark.is) in
     let way = ap (λ k. draws_at m t (condition_of k)) doubt in
     made_alone m g.met.W.Wire.meant g.met.W.Make.Make.lawful draw
-    (λ places es. rw way (numbers_left g.W.Wire.goes t (asks_mark m t) c.if-self.false (c.draw_in_doubt.ensures doubt))) (λ s. tt) (λ ss s. refl)
+    (λ places es. rw way (numbers_left g.W.Wire.goes t (asks_mark m t) c.if-self.false (c.draw_in_doubt.ensures.followed doubt))) (λ s. tt) (λ ss s. refl)
     (none_added c.draw_in_doubt.result)
 
-pub returns-in_default : goal.returns-in_default
-returns-in_default g c =
+pub returns-in_default-clause-made : goal.returns-in_default-clause-made
+returns-in_default-clause-made g c =
     let m = g.W.Make.Make.sheet in
     let t = meter_of c.args.self.now in
     let way = else_refreshes m t c.args.self.now.condition c.in_ok-way.way (sym c.in_ok-way.ensures) c.in_default.not-AskMark in
     made_alone m g.met.W.Wire.meant g.met.W.Make.Make.lawful draw
-    (λ places es. rw way (numbers_left g.W.Wire.goes t (refreshes m t) c.if-self.false c.refresh.ensures)) (λ s. tt) (λ ss s. refl)
+    (λ places es. rw way (numbers_left g.W.Wire.goes t (refreshes m t) c.if-self.false c.refresh.ensures.followed)) (λ s. tt) (λ ss s. refl)
     (none_added c.refresh.result)
