@@ -1,5 +1,5 @@
 -- A whole input answered.
-use Rattle.std.proofs.Common.{◌≡◌, ◌≤◌, ℕ, Bool, true, List, [], ◌∷◌, ◌++◌, length, replicate, Some, None, Option, is_some, refl, sym, ap, ◌∙◌, subst, ap₂}
+use Rattle.std.proofs.Common.{◌≡◌, ◌≤◌, ℕ, Bool, true, List, [], ◌∷◌, ◌++◌, length, replicate, Some, None, Option, is_some, String, Global, string_bytes, refl, sym, ap, ◌∙◌, subst, ap₂}
 use Rattle.std.proofs.lemmas.List.{append-nil, append_assoc, length-replicate}
 use Rattle.account.specs.Dialogue.{given_up, wrote_off}
 use Rattle.account.specs.Dialogue as machine
@@ -15,7 +15,7 @@ use Rattle.crew.specs.Asks.{asked, kind_asked}
 use Rattle.crew.specs.Obeyed.{kind_taken, opened, unreadable}
 use Rattle.crew.specs.Runs.{HasRoom, LedBy, LineAnswered, PostEnded, PostOpened, chip_at, goes_to, line_shows, passes_to, visible}
 use Rattle.crew.specs.Prints.{printed_lines}
-use Rattle.crew.specs.Sessions.{Answers, LinesAnswered, Opening, PostServed, RunShown, booked_in, empty_entry, lines_show, meter_ended, no_line, one_line, shown_ended}
+use Rattle.crew.specs.Sessions.{InputAnswered, LinesAnswered, Opening, PostServed, RunShown, booked_in, empty_entry, lines_show, meter_ended, no_line, one_line, shown_ended}
 use Rattle.crew.specs.Texts.{KindPrinted, Opened}
 use Rattle.crew.specs.declared.kind.Kind.{Kind}
 use Rattle.crew.specs.declared.reply.Reply.{Reply}
@@ -23,6 +23,8 @@ use Rattle.crew.specs.declared.request.Request.{Request}
 use Rattle.desk.specs.Promises.{Ended}
 use Rattle.desk.specs.Standing.{Standing}
 use Rattle.lines.specs.Cuts.{lines, read_part}
+use Rattle.lines.specs.Inputs.{lines_left}
+use Rattle.lines.specs.declared.input.Input.{Input}
 use Rattle.wire.specs.declared.direct.Direct.{Direct}
 use Rattle.wire.specs.declared.scripted.Scripted.{Scripted}
 
@@ -99,33 +101,34 @@ module _ (m : Datasheet) {M : Type 0} where
       }
 
 -- an input that names no kind, and one that does
-module _ (input : List ℕ) {bs left : List (List ℕ)} {before middle : List ℕ} (is : bs ≡ lines (read_part input)) (empty : before ≡ []) where
-  pub no_kind_answered : {k : Option Kind} → k ≡ None → Opened bs before k left middle → Answers input middle
+module _ (text : List ℕ) {input left : Input} {before middle : String Global} (is : lines_left input ≡ lines (read_part text)) (empty : string_bytes before ≡ []) where
+  pub no_kind_answered : {k : Option Kind} → k ≡ None → Opened input left before middle k → InputAnswered text (string_bytes middle)
   no_kind_answered none opened =
-      let o = subst (λ (x : Option Kind). Opened bs before x left middle) none opened in record {
+      let o = subst (λ (x : Option Kind). Opened input left before middle x) none opened in record {
         replies = o.replies;
         session = record {
           kind = None;
           first = o.replies;
-          left = left;
+          left = lines_left left;
           later = [];
-          opening = subst (λ x. Opening x o.replies None left) is o.opening;
+          opening = subst (λ x. Opening x o.replies None (lines_left left)) is o.opening;
           served = refl;
           all = sym (append-nil o.replies);
         };
         prints = o.prints ∙ ap (λ x. x ++ printed_lines o.replies) empty;
       }
 
-  pub kind_answered : {after : List ℕ} {o : Option Kind} (k : Kind) → o ≡ Some k → Opened bs before o left middle → KindPrinted k left middle after → Answers input after
+  pub kind_answered : {after : String Global} {o : Option Kind} (k : Kind) → o ≡ Some k → Opened input left before middle o → KindPrinted k left middle after
+      → InputAnswered text (string_bytes after)
   kind_answered k some opened p =
-      let o = subst (λ (x : Option Kind). Opened bs before x left middle) some opened in record {
+      let o = subst (λ (x : Option Kind). Opened input left before middle x) some opened in record {
         replies = o.replies ++ p.replies;
         session = record {
           kind = Some k;
           first = o.replies;
-          left = left;
+          left = lines_left left;
           later = p.replies;
-          opening = subst (λ x. Opening x o.replies (Some k) left) is o.opening;
+          opening = subst (λ x. Opening x o.replies (Some k) (lines_left left)) is o.opening;
           served = p.served;
           all = refl;
         };

@@ -1,5 +1,6 @@
 -- What is printed for a reply.
-use Rattle.std.specs.Prelude.{ℕ, List, [], ◌∷◌, ◌++◌, ℤ, pos, Ok, Err, Result, codes, slice_index_or}
+use Rattle.std.specs.Prelude.{◌≡◌, ℕ, List, [], ◌∷◌, ◌++◌, ℤ, pos, Ok, Err, Result, String, codes, slice_index_or, string_bytes}
+use Rattle.std.specs.declared.alloc.Global.{Global}
 use Rattle.std.specs.Fmt.{decimal, signed_decimal}
 use Rattle.book.specs.declared.bill.Bill.{Bill}
 use Rattle.chip.specs.Refusals.{number_of}
@@ -69,3 +70,7 @@ printed_line r = printed r ++ 10 ∷ []
 abbrev pub printed_lines : List Reply → List ℕ
 printed_lines [] = []
 printed_lines (p ∷ ps) = printed_line p ++ printed_lines ps
+
+-- a text has these bytes more
+abbrev pub Adds : (bytes : List ℕ) → (before after : String Global) → Type 0
+Adds bytes before after = string_bytes after ≡ string_bytes before ++ bytes

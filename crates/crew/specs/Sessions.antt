@@ -103,7 +103,7 @@ pub record Session (bs : List (List ℕ)) (ps : List Reply) : Type 0 where
   pub all : ps ≡ first ++ later
 
 -- what is printed for an input: the replies to the lines in its first 64 KiB
-pub record Answers (input output : List ℕ) : Type 0 where
+pub record InputAnswered (input output : List ℕ) : Type 0 where
   pub replies : List Reply
   pub session : Session (lines (read_part input)) replies
   pub prints : output ≡ printed_lines replies

@@ -1,34 +1,36 @@
 -- Replies added to a text.
-use Rattle.std.specs.Prelude.{◌≡◌, ℕ, List, ◌++◌, Some, Option}
+use Rattle.std.specs.Prelude.{List, Some, Option, String}
+use Rattle.std.specs.declared.alloc.Global.{Global}
 use Rattle.chip.specs.Datasheet.{Datasheet}
-use Rattle.crew.specs.Prints.{printed_lines}
+use Rattle.crew.specs.Prints.{Adds, printed_lines}
 use Rattle.crew.specs.Sessions.{LinesAnswered, Opening, PostServed, ServedBy}
 use Rattle.crew.specs.declared.kind.Kind.{Kind}
 use Rattle.crew.specs.declared.reply.Reply.{Reply}
 use Rattle.desk.specs.Standing.{Standing}
+use Rattle.lines.specs.Inputs.{lines_left}
+use Rattle.lines.specs.declared.input.Input.{Input}
 use Rattle.wire.specs.declared.direct.Direct.{Direct}
 
 -- those to the lines before there is a chip
-pub record Opened (bs : List (List ℕ)) (before : List ℕ) (kind : Option Kind) (left : List (List ℕ)) (after : List ℕ) : Type 0 where
+pub record Opened (input left : Input) (before after : String Global) (kind : Option Kind) : Type 0 where
   pub replies : List Reply
-  pub opening : Opening bs replies kind left
-  pub prints : after ≡ before ++ printed_lines replies
+  pub opening : Opening (lines_left input) replies kind (lines_left left)
+  pub prints : Adds (printed_lines replies) before after
 
--- those to some lines at a post
-pub record LinesPrinted (m : Datasheet) {M : Type 0} (bs : List (List ℕ)) (d : Standing (Direct M)) (before : List ℕ) (d' : Standing (Direct M))
-    (after : List ℕ) : Type 0 where
+-- those to all lines of an input at a post, which leads from one standing of its desk to another
+pub record LinesPrinted (m : Datasheet) {M : Type 0} (input : Input) (d d' : Standing (Direct M)) (before after : String Global) : Type 0 where
   pub replies : List Reply
-  pub answered : LinesAnswered m bs d replies d'
-  pub prints : after ≡ before ++ printed_lines replies
+  pub answered : LinesAnswered m (lines_left input) d replies d'
+  pub prints : Adds (printed_lines replies) before after
 
 -- those to all lines at a new post, to its end
-pub record PostPrinted (m : Datasheet) (M : Type 0) (bs : List (List ℕ)) (before after : List ℕ) : Type 0 where
+pub record PostPrinted (m : Datasheet) (M : Type 0) (input : Input) (before after : String Global) : Type 0 where
   pub replies : List Reply
-  pub served : PostServed m M bs replies
-  pub prints : after ≡ before ++ printed_lines replies
+  pub served : PostServed m M (lines_left input) replies
+  pub prints : Adds (printed_lines replies) before after
 
--- the same where a kind was named
-pub record KindPrinted (k : Kind) (bs : List (List ℕ)) (before after : List ℕ) : Type 0 where
+-- the same at a post of the kind that was named
+pub record KindPrinted (kind : Kind) (input : Input) (before after : String Global) : Type 0 where
   pub replies : List Reply
-  pub served : ServedBy (Some k) bs replies
-  pub prints : after ≡ before ++ printed_lines replies
+  pub served : ServedBy (Some kind) (lines_left input) replies
+  pub prints : Adds (printed_lines replies) before after

@@ -24,10 +24,13 @@ pub enum Kind {
 
 /// Work for a chip of any make. A line says which make it is to be, and `Kind::choose` does the work with that one.
 pub trait ForMake {
+    /// what comes of it
     type Done;
 
+    // what is promised of that, by the make's data sheet
     ghost done: { Self → Datasheet → Self.Done → Type 0 };
 
+    /// Does the work with this make.
     fn with<M: Make>(self) -> Self::Done
         ensures { done self M.Make.sheet result };
 }

@@ -1,6 +1,6 @@
 //! What is printed for a line.
-ghost use Rattle.std.specs.Prelude.{◌≡◌, ◌<◌, ◌∷◌, ◌++◌, OnOk, string_bytes};
-ghost use Rattle.crew.specs.Prints.{bill_fields, entry_fields, fields_of, outcome_fields, printed_line, stretch_fields, sum_field, sum_fields};
+ghost use Rattle.std.specs.Prelude.{◌<◌, ◌∷◌, OnOk};
+ghost use Rattle.crew.specs.Prints.{Adds, bill_fields, entry_fields, fields_of, outcome_fields, printed_line, stretch_fields, sum_field, sum_fields};
 
 use crate::word::Word;
 use book::bill::Bill;
@@ -41,9 +41,9 @@ impl Reply {
     };
 
     /// Adds to a text what is printed for it, a whole line: the word, 0 and what is shown or the refusal's number, and the line's end. Only
-    /// want of memory is an error.
+    /// want of memory is an error; the text may then end in a part of the line.
     pub fn append_to(&self, text: &mut String) -> Result<(), AllocError>
-        ensures { OnOk result (string_bytes text.new ≡ string_bytes text.old ++ printed_line self.now) }
+        ensures { OnOk result (Adds (printed_line self.now) text.old text.new) }
     {
         text.push_str(self.word.text())?;
         append_outcome(text, &self.outcome)?;
@@ -51,8 +51,9 @@ impl Reply {
     }
 }
 
+// 0 and what is shown, or the refusal's number, each after a comma.
 fn append_outcome(text: &mut String, outcome: &Result<Shown, Refusal>) -> Result<(), AllocError>
-    ensures { OnOk result (string_bytes text.new ≡ string_bytes text.old ++ outcome_fields outcome.now) }
+    ensures { OnOk result (Adds (outcome_fields outcome.now) text.old text.new) }
 {
     match outcome {
         Ok(shown) => {
@@ -66,7 +67,7 @@ fn append_outcome(text: &mut String, outcome: &Result<Shown, Refusal>) -> Result
 impl Shown {
     // Each field after a comma.
     fn append_to(&self, text: &mut String) -> Result<(), AllocError>
-        ensures { OnOk result (string_bytes text.new ≡ string_bytes text.old ++ fields_of self.now) }
+        ensures { OnOk result (Adds (fields_of self.now) text.old text.new) }
     {
         match self {
             Shown::Nothing => Ok(()),
@@ -79,14 +80,15 @@ impl Shown {
 
 // A number after a comma.
 fn append_field<I: Integer>(text: &mut String, number: I) -> Result<(), AllocError>
-    ensures { OnOk result (string_bytes text.new ≡ string_bytes text.old ++ 44 ∷ I.text number) }
+    ensures { OnOk result (Adds (44 ∷ I.text number) text.old text.new) }
 {
     text.push(',')?;
     text.push_str(Buffer::new().format(number))
 }
 
+// An entry in its order, each field after a comma.
 fn append_entry(text: &mut String, entry: &Entry) -> Result<(), AllocError>
-    ensures { OnOk result (string_bytes text.new ≡ string_bytes text.old ++ entry_fields entry.now) }
+    ensures { OnOk result (Adds (entry_fields entry.now) text.old text.new) }
 {
     append_stretch(text, entry)?;
     append_sums(text, &entry.sums)
@@ -94,7 +96,7 @@ fn append_entry(text: &mut String, entry: &Entry) -> Result<(), AllocError>
 
 // What an entry says beside its sums.
 fn append_stretch(text: &mut String, entry: &Entry) -> Result<(), AllocError>
-    ensures { OnOk result (string_bytes text.new ≡ string_bytes text.old ++ stretch_fields entry.now) }
+    ensures { OnOk result (Adds (stretch_fields entry.now) text.old text.new) }
 {
     append_field(text, entry.draw)?;
     append_field(text, entry.spoilt)?;
@@ -104,8 +106,9 @@ fn append_stretch(text: &mut String, entry: &Entry) -> Result<(), AllocError>
     append_field(text, entry.two_way)
 }
 
+// All four sums, channel 1's first.
 fn append_sums(text: &mut String, sums: &[i64; 4]) -> Result<(), AllocError>
-    ensures { OnOk result (string_bytes text.new ≡ string_bytes text.old ++ sum_fields sums.now) }
+    ensures { OnOk result (Adds (sum_fields sums.now) text.old text.new) }
 {
     append_sum(text, sums, 0)?;
     append_sum(text, sums, 1)?;
@@ -116,13 +119,14 @@ fn append_sums(text: &mut String, sums: &[i64; 4]) -> Result<(), AllocError>
 // A channel's sum, counted from 0.
 fn append_sum(text: &mut String, sums: &[i64; 4], channel: usize) -> Result<(), AllocError>
     requires { channel < 4 }
-    ensures { OnOk result (string_bytes text.new ≡ string_bytes text.old ++ sum_field sums.now channel) }
+    ensures { OnOk result (Adds (sum_field sums.now channel) text.old text.new) }
 {
     append_field(text, sums[channel])
 }
 
+// A bill's three numbers.
 fn append_bill(text: &mut String, bill: &Bill) -> Result<(), AllocError>
-    ensures { OnOk result (string_bytes text.new ≡ string_bytes text.old ++ bill_fields bill.now) }
+    ensures { OnOk result (Adds (bill_fields bill.now) text.old text.new) }
 {
     append_field(text, bill.energy)?;
     append_field(text, bill.billed)?;

@@ -1,9 +1,8 @@
 //! A whole input answered: every line, from the first on, and the end.
 ghost use Rattle.std.specs.Prelude.{IfOk, OnOk, string_bytes};
-ghost use Rattle.crew.specs.Sessions.{Answers};
+ghost use Rattle.crew.specs.Sessions.{InputAnswered};
 ghost use Rattle.crew.specs.Texts.{KindPrinted, LinesPrinted, Opened, PostPrinted};
 ghost use Rattle.desk.specs.Standing.{standing};
-ghost use Rattle.lines.specs.Inputs.{lines_left};
 
 use crate::kind::{self, Kind};
 use crate::post::{PLACES, Post};
@@ -17,7 +16,7 @@ use std::alloc::{AllocError, Global};
 /// What is printed for an input: a reply to each line in its first 64 KiB, from a fresh chip of the kind that the lines name, and at the end
 /// a slip in hand is written off. Only want of memory is an error, and then nothing is to be printed.
 pub fn answer(alloc: Global, input: &[u8]) -> Result<String, AllocError>
-    ensures { IfOk result (λ text. Answers input.now (string_bytes text)) }
+    ensures { IfOk result (λ text. InputAnswered input.now (string_bytes text)) }
 {
     let mut text = String::new(alloc);
     let mut input = Input::new(input);
@@ -27,9 +26,10 @@ pub fn answer(alloc: Global, input: &[u8]) -> Result<String, AllocError>
     Ok(text)
 }
 
-/// Answers the lines up to the first that names a kind of chip, and that one, and adds the replies to a text. It gives the kind, if one was named.
+/// Answers the lines up to the first that names a kind of chip, and that one, and adds the replies to a text. It gives the kind, if one was
+/// named. Only want of memory is an error.
 pub fn open(text: &mut String, input: &mut Input) -> Result<Option<Kind>, AllocError>
-    ensures { IfOk result (λ k. Opened (lines_left input.old) (string_bytes text.old) k (lines_left input.new) (string_bytes text.new)) }
+    ensures { IfOk result (Opened input.old input.new text.old text.new) }
 {
     while let Some(line) = input.next() {
         let (reply, kind) = kind::opening(line);
@@ -43,7 +43,7 @@ pub fn open(text: &mut String, input: &mut Input) -> Result<Option<Kind>, AllocE
 
 // All lines that are left, at a new post of this kind.
 fn serve_kind(kind: Kind, text: &mut String, input: Input) -> Result<(), AllocError>
-    ensures { OnOk result (KindPrinted kind (lines_left input.entry) (string_bytes text.old) (string_bytes text.new)) }
+    ensures { OnOk result (KindPrinted kind input.entry text.old text.new) }
 {
     match kind {
         Kind::Pac193x => serve::<Pac193x>(text, input),
@@ -53,7 +53,7 @@ fn serve_kind(kind: Kind, text: &mut String, input: Input) -> Result<(), AllocEr
 
 // All lines that are left, at a new post of this make. What can fail stands where the post is lent, so that it always ends, and with it a slip in hand.
 fn serve<M: Make>(text: &mut String, input: Input) -> Result<(), AllocError>
-    ensures { OnOk result (PostPrinted M.Make.sheet M (lines_left input.entry) (string_bytes text.old) (string_bytes text.new)) }
+    ensures { OnOk result (PostPrinted M.Make.sheet M input.entry text.old text.new) }
 {
     let mut places = [Entry::EMPTY; PLACES];
     let mut post = Post::<M>::new(&mut places);
@@ -62,12 +62,14 @@ fn serve<M: Make>(text: &mut String, input: Input) -> Result<(), AllocError>
     answered
 }
 
+// Every line that is left, one after the other.
 fn answer_lines<M: Make>(
     text: &mut String,
     post: &mut Post<M>,
     input: Input,
 ) -> Result<(), AllocError>
-    ensures { OnOk result (LinesPrinted M.Make.sheet (lines_left input.entry) (standing post.old.desk) (string_bytes text.old) (standing post.new.desk) (string_bytes text.new)) }
+    ensures { OnOk result (LinesPrinted M.Make.sheet input.entry
+        (standing post.old.desk) (standing post.new.desk) text.old text.new) }
 {
     for line in input {
         post.answer(line).append_to(text)?;

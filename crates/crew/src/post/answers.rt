@@ -26,11 +26,13 @@ impl<'a, M: Make> Post<'a, M> {
         }
     }
 
-    /// The answer to a line, whatever its bytes are.
+    /// The answer to a line, whatever its bytes are. Whatever run led here, it goes on with just the cycle, entry or write-off of this line.
     pub fn answer(&mut self, line: &[u8]) -> Reply
-        ensures answered { LineAnswered M.Make.sheet (asked line.now) (standing self.old.desk) result (standing self.new.desk) }
+        ensures answered { LineAnswered M.Make.sheet (asked line.now)
+            (standing self.old.desk) result (standing self.new.desk) }
         ensures statements { ∥ OnRun M.Make.sheet chip_at (standing self.new.desk) ∥₁ }
-        ensures goes_on { GoesOn M.Make.sheet chip_at (line_shows (asked line.now) result.outcome) (standing self.old.desk) (standing self.new.desk) }
+        ensures goes_on { GoesOn M.Make.sheet chip_at (line_shows (asked line.now) result.outcome)
+            (standing self.old.desk) (standing self.new.desk) }
         ensures same { self.new.desk.book.places.ghost_name ≡ self.old.desk.book.places.ghost_name }
     {
         match Request::read(line) {
