@@ -10,7 +10,7 @@ The last argument is the folder if it names one, else the folder is examples/.
 Every .txt of the folder with a .out beside it is fed to the program; what it
 prints must be the .out, byte for byte, and it must end with status 0.  On
 standard error it must print one line for an input that is longer than it reads,
-and nothing for any other.
+and nothing for any other; where standard error takes nothing, the rest must be the same.
 Differences are reported line by line, and any makes the exit status 1.
 """
 
@@ -19,11 +19,14 @@ import sys
 from itertools import zip_longest
 from pathlib import Path
 
+sys.dont_write_bytecode = True
+
+from model import LONGEST_INPUT
+
 BENCH = Path(__file__).resolve().parent
 EXAMPLES = BENCH.parent / "examples"
 MODEL = [sys.executable, str(BENCH / "model.py"), "trailer"]
 SHOWN = 10  # differences printed for each example
-LONGEST_INPUT = 65_536  # bytes; the rest is not read, and the program says so
 
 
 def differences(source, expected, printed):
@@ -44,9 +47,16 @@ def check(command, example):
     expected = example.with_suffix(".out").read_bytes()
     done = subprocess.run(command, input=source, capture_output=True)
     unlike = differences(source, expected, done.stdout)
-    warned = done.stderr.count(b"\n") == (len(source) > LONGEST_INPUT)
+    long = len(source) > LONGEST_INPUT
+    warned = done.stderr.count(b"\n") == long
     good = not unlike and warned and done.returncode == 0
+    if long:
+        with open("/dev/full", "wb") as full:
+            unheard = subprocess.run(command, input=source, stdout=subprocess.PIPE, stderr=full)
+        good &= unheard.stdout == expected and unheard.returncode == 0
     print(f"{example.name}: {'ok' if good else 'DIFFERENT'}")
+    if long and (unheard.stdout, unheard.returncode) != (done.stdout, done.returncode):
+        print(f"  otherwise where standard error takes nothing, with exit status {unheard.returncode}")
     if done.returncode != 0:
         print(f"  exit status {done.returncode}")
     if not warned:

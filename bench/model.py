@@ -1065,9 +1065,10 @@ def main():
     if len(sys.argv) > 2 or name not in PROGRAMS:
         sys.exit(f"usage: model.py [{'|'.join(PROGRAMS)}] < FILE")
     data = sys.stdin.buffer.read(LONGEST_INPUT + 1)
+    print(answers(PROGRAMS[name](), data), end="", flush=True)
     if len(data) > LONGEST_INPUT:
-        print(f"{name}: only the first {LONGEST_INPUT} bytes of the input were read", file=sys.stderr)
-    print(answers(PROGRAMS[name](), data), end="")
+        with contextlib.suppress(OSError):
+            print(f"{name}: only the first {LONGEST_INPUT} bytes of the input were read", file=sys.stderr)
 
 
 if __name__ == "__main__":

@@ -16,6 +16,7 @@ use Rattle.account.specs.History.{is_refresh}
 
 -- THE TESTS BEFORE ANYTHING IS SENT
 
+-- a slip is out
 abbrev pub has_slip_out : Condition → Bool
 has_slip_out (slip_out n) = true
 has_slip_out k = false
@@ -179,6 +180,7 @@ module _ (m : Datasheet) where
   AlwaysTrueToChip = (q : Call) (t t' : Meter) (c c' : State) (places : ℕ) (es : List Entry) (ss : List Step) (r : Answer)
       → Follows (dialogue m q t places es) ss (t', r) → Along m c ss c' → TrueToChip q t c ss c' r
 
+  -- both, of a make
   pub record EveryCallOf : Type 0 where
     pub rules : RulesAlways
     pub chip : AlwaysTrueToChip

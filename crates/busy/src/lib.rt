@@ -17,7 +17,8 @@ pub fn every_busy_run_is_accounted()
     ensures { EveryBusyRun }
 {}
 
-/// A draw puts the wanted settings in force, a look shows the code of its REFRESH_V, and a booking gives the image's entry, wherever the cycles come.
+/// A draw puts the wanted settings in force, a look shows the code of its REFRESH_V, and, on a make whose registers show the image alone where a booking
+/// reads, a booking gives the image's entry, wherever the cycles come.
 pub fn every_busy_call_keeps_its_word()
     ensures { EveryBusyCall }
 {}

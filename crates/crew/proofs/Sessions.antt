@@ -1,22 +1,21 @@
 -- A whole input answered.
-use Rattle.std.proofs.Common.{◌≡◌, ◌≤◌, ℕ, Bool, true, List, [], ◌∷◌, ◌++◌, length, replicate, Some, None, Option, is_some, String, Global, string_bytes, refl, sym, ap, ◌∙◌, subst, ap₂}
-use Rattle.std.proofs.lemmas.List.{append-nil, append_assoc, length-replicate}
+use Rattle.std.proofs.Common.{◌≡◌, ℕ, List, [], ◌∷◌, ◌++◌, length, replicate, Some, None, Option, String, Global, string_bytes, refl, sym, ap, ◌∙◌, subst, ap₂}
+use Rattle.std.proofs.lemmas.List.{append-nil, append_assoc}
 use Rattle.account.specs.Dialogue.{given_up, wrote_off}
 use Rattle.account.specs.Dialogue as machine
 use Rattle.account.specs.History.{History, carried_in, happened_after, written_off}
-use Rattle.account.specs.Steps.{Step}
-use Rattle.book.specs.Book.{entries}
+use Rattle.book.specs.Book.{Pages, entries}
 use Rattle.chip.specs.Datasheet.{Datasheet}
 use Rattle.chip.specs.declared.entry.Entry.{Entry}
 use Rattle.crew.proofs.Histories.{book_shown, call_seen, seen_joined}
 use Rattle.crew.proofs.Texts.{printed_joined}
 use Rattle.crew.proofs.Runs.{Onward, begun_led, begun_room, goes_onward, none_used, stays}
-use Rattle.crew.specs.Asks.{asked, kind_asked}
-use Rattle.crew.specs.Obeyed.{kind_taken, opened, unreadable}
+use Rattle.crew.specs.Asks.{asked}
+use Rattle.crew.specs.Obeyed.{opened}
 use Rattle.crew.specs.Runs.{HasRoom, LedBy, LineAnswered, PostEnded, PostOpened, chip_at, goes_to, line_shows, passes_to, visible}
 use Rattle.crew.specs.Prints.{printed_lines}
-use Rattle.crew.specs.Sessions.{InputAnswered, LinesAnswered, Opening, PostServed, RunShown, booked_in, empty_entry, lines_show, meter_ended, no_line, one_line, shown_ended}
-use Rattle.crew.specs.Texts.{KindPrinted, Opened}
+use Rattle.crew.specs.Sessions.{InputAnswered, LinesAnswered, Opening, PostServed, RunShown, Served, ServedBy, booked_in, empty_entry, lines_show, meter_ended, no_line, one_line, shown_ended}
+use Rattle.crew.specs.Texts.{KindPrinted, OpeningPrinted, PostPrinted}
 use Rattle.crew.specs.declared.kind.Kind.{Kind}
 use Rattle.crew.specs.declared.reply.Reply.{Reply}
 use Rattle.crew.specs.declared.request.Request.{Request}
@@ -71,40 +70,58 @@ module _ (m : Datasheet) {M : Type 0} where
   shown {h = h} seen l = record { history = h; visible_part = seen; reached = l.reached; statements = l.statements }
 
   -- the end of a post writes a slip in hand off, and leaves the chip and the book
-  shown_at_end : (hand : Option machine.Slip) (d : Standing (Direct M)) (w : Scripted (Direct M)) → w ≡ d.wire → Ended m chip_at (goes_to m) hand d.meter d.wire w
-      → {s h : History} → visible h ≡ s → LedBy m chip_at d h
-      → RunShown m (shown_ended hand s) (meter_ended hand d.meter) (chip_at d.wire.below) (entries d.book)
-  shown_at_end None d w same e seen l = shown seen l
-  shown_at_end (Some p) d w same e {s} {h} seen l =
+  shown_at_end : (hand : Option machine.Slip) (d : Standing (Direct M)) (w : Scripted (Direct M)) → Ended m chip_at (goes_to m) hand d.meter d.wire w
+      → w ≡ d.wire → {s h : History} → visible h ≡ s → LedBy m chip_at d h
+      → RunShown m (shown_ended hand s) (meter_ended hand d.meter) (chip_at w.below) (entries d.book)
+  shown_at_end None d w e same {s} seen l = subst (λ (x : Scripted (Direct M)). RunShown m s d.meter (chip_at x.below) (entries d.book)) (sym same) (shown seen l)
+  shown_at_end (Some p) d w e same {s} {h} seen l =
       let call = e.made 64 (entries d.book) [] in
       let on = call.run 1 0 h none_used l.reached in
-      subst (λ (x : Scripted (Direct M)). RunShown m (written_off ∷ s) (wrote_off d.meter) (chip_at x.below) (entries d.book)) same (record {
+      record {
         history = happened_after given_up (carried_in call.made.steps h);
         visible_part = call_seen given_up call.made.steps h ∙ ap (λ x. written_off ∷ x) seen;
         reached = on.0;
         statements = on.1;
-      })
+      }
 
   -- all lines at a new post, to its end
-  pub post_served : {bs : List (List ℕ)} {begun left : Standing (Direct M)} {ps : List Reply} {w : Scripted (Direct M)} → PostOpened m (replicate 64 empty_entry) begun
-      → LinesAnswered m bs begun ps left → w ≡ left.wire → PostEnded m left w → PostServed m M bs ps
-  post_served {bs} {begun} {left} {ps} {w} o a same e =
-      let run = lines_led (length-replicate 64 empty_entry) o a in
-      record {
-        begun = begun;
-        opened = o;
-        left = left;
-        answered = a;
-        account = shown run.1 run.2;
-        at_end = shown_at_end left.hand left w same e run.1 run.2;
-        book = book_shown run.2.reached ∙ ap booked_in run.1;
-      }
+  module _ {places : List Entry} {bs : List (List ℕ)} {begun left : Standing (Direct M)} {ps : List Reply} {w : Scripted (Direct M)} {b : Pages} (many : length places ≡ 64)
+      (o : PostOpened m places begun) (a : LinesAnswered m bs begun ps left) (e : PostEnded m left w) (wire : w ≡ left.wire) (book : b ≡ left.book) where
+    pub post_served : PostServed m places bs ps w b
+    post_served =
+        let run = lines_led many o a in
+        let after = shown run.1 run.2 in
+        let ended = shown_at_end left.hand left w e wire run.1 run.2 in
+        record {
+          begun = begun;
+          opened = o;
+          left = left;
+          answered = a;
+          wire_left = wire;
+          book_left = book;
+          account = subst (λ (x : Pages). RunShown m (lines_show bs ps) left.meter (chip_at w.below) (entries x)) (sym book)
+              (subst (λ (x : Scripted (Direct M)). RunShown m (lines_show bs ps) left.meter (chip_at x.below) (entries left.book)) (sym wire) after);
+          at_end = subst (λ (x : Pages). RunShown m (shown_ended left.hand (lines_show bs ps)) (meter_ended left.hand left.meter) (chip_at w.below) (entries x)) (sym book)
+              ended;
+          booked = ap entries book ∙ book_shown run.2.reached ∙ ap booked_in run.1;
+        }
+
+-- at a post of the kind that was named
+pub printed_at_kind : {kind named : Kind} {m : Datasheet} {M : Type 0} {input : Input} {before after : String Global} {w : Scripted (Direct M)} {b : Pages}
+    → ((bs : List (List ℕ)) (ps : List Reply) → Served m M bs ps → ServedBy (Some named) bs ps) → kind ≡ named
+    → PostPrinted m input (replicate 64 empty_entry) before after w b → KindPrinted kind input before after
+printed_at_kind {input = input} {before} {after} {w} {b} by is p =
+    subst (λ (k : Kind). KindPrinted k input before after) (sym is) (record {
+      replies = p.replies;
+      served = by (lines_left input) p.replies (record { wire = w; book = b; served = p.served });
+      prints = p.prints;
+    })
 
 -- an input that names no kind, and one that does
 module _ (text : List ℕ) {input left : Input} {before middle : String Global} (is : lines_left input ≡ lines (read_part text)) (empty : string_bytes before ≡ []) where
-  pub no_kind_answered : {k : Option Kind} → k ≡ None → Opened input left before middle k → InputAnswered text (string_bytes middle)
+  pub no_kind_answered : {k : Option Kind} → k ≡ None → OpeningPrinted input left before middle k → InputAnswered text (string_bytes middle)
   no_kind_answered none opened =
-      let o = subst (λ (x : Option Kind). Opened input left before middle x) none opened in record {
+      let o = subst (λ (x : Option Kind). OpeningPrinted input left before middle x) none opened in record {
         replies = o.replies;
         session = record {
           kind = None;
@@ -118,10 +135,10 @@ module _ (text : List ℕ) {input left : Input} {before middle : String Global} 
         prints = o.prints ∙ ap (λ x. x ++ printed_lines o.replies) empty;
       }
 
-  pub kind_answered : {after : String Global} {o : Option Kind} (k : Kind) → o ≡ Some k → Opened input left before middle o → KindPrinted k left middle after
+  pub kind_answered : {after : String Global} {o : Option Kind} (k : Kind) → o ≡ Some k → OpeningPrinted input left before middle o → KindPrinted k left middle after
       → InputAnswered text (string_bytes after)
   kind_answered k some opened p =
-      let o = subst (λ (x : Option Kind). Opened input left before middle x) some opened in record {
+      let o = subst (λ (x : Option Kind). OpeningPrinted input left before middle x) some opened in record {
         replies = o.replies ++ p.replies;
         session = record {
           kind = Some k;

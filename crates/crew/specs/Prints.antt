@@ -67,6 +67,7 @@ printed r = text_of r.word ++ outcome_fields r.outcome
 abbrev pub printed_line : Reply → List ℕ
 printed_line r = printed r ++ 10 ∷ []
 
+-- some replies, one after the other
 abbrev pub printed_lines : List Reply → List ℕ
 printed_lines [] = []
 printed_lines (p ∷ ps) = printed_line p ++ printed_lines ps

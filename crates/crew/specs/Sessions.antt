@@ -3,7 +3,7 @@ use Rattle.std.specs.Prelude.{◌≡◌, ℕ, List, [], ◌∷◌, ◌++◌, rep
 use Rattle.account.specs.Dialogue.{Meter, Slip, wrote_off}
 use Rattle.account.specs.History.{History, Reached, booked, written_off}
 use Rattle.account.specs.Statements.{Statements}
-use Rattle.book.specs.Book.{entries}
+use Rattle.book.specs.Book.{Pages, entries}
 use Rattle.chip.specs.Datasheet.{Datasheet}
 use Rattle.chip.specs.declared.entry.Entry.{Entry}
 use Rattle.chip.specs.declared.state.State.{State}
@@ -21,6 +21,7 @@ use Rattle.makes.specs.Pac194x.{pac194x}
 use Rattle.makes.specs.declared.pac193x.Pac193x as code193x
 use Rattle.makes.specs.declared.pac194x.Pac194x as code194x
 use Rattle.wire.specs.declared.direct.Direct.{Direct}
+use Rattle.wire.specs.declared.scripted.Scripted.{Scripted}
 
 -- THE LINES BEFORE THERE IS A CHIP
 
@@ -59,38 +60,49 @@ pub record RunShown (m : Datasheet) (shows : History) (t : Meter) (c : State) (e
   pub reached : Reached m 64 1 0 t c es history
   pub statements : Statements m 64 1 0 t c es history
 
--- the end writes a slip in hand off
+-- the end writes a slip in hand off: so stands the meter then
 abbrev pub meter_ended : Option Slip → Meter → Meter
 meter_ended None t = t
 meter_ended (Some p) t = wrote_off t
 
+-- and that is one write-off more to be seen
 abbrev pub shown_ended : Option Slip → History → History
 shown_ended None h = h
 shown_ended (Some p) h = written_off ∷ h
+
+-- lines answered at a new post of a make, with these places for its book, from its beginning to its end, and the wire and the book after that
+pub record PostServed (m : Datasheet) {M : Type 0} (places : List Entry) (bs : List (List ℕ)) (ps : List Reply) (wire : Scripted (Direct M)) (book : Pages)
+    : Type 0 where
+  pub begun : Standing (Direct M)
+  pub opened : PostOpened m places begun
+  pub left : Standing (Direct M)
+  pub answered : LinesAnswered m bs begun ps left
+  -- the end changes neither wire nor book
+  pub wire_left : wire ≡ left.wire
+  pub book_left : book ≡ left.book
+  -- the account after the last line, and after the end
+  pub account : RunShown m (lines_show bs ps) left.meter (chip_at wire.below) (entries book)
+  pub at_end : RunShown m (shown_ended left.hand (lines_show bs ps)) (meter_ended left.hand left.meter) (chip_at wire.below) (entries book)
+  -- the book has just the entries that were printed
+  pub booked : entries book ≡ booked_in (lines_show bs ps)
+
+-- THE WHOLE INPUT
 
 -- what stands in a place of a book that nothing was written to
 abbrev pub empty_entry : Entry
 empty_entry = record { draw = 0; spoilt = 0; count = 0; rate = 0; off = 0; two_way = 0; sums = replicate 4 (pos 0) }
 
--- lines answered at a new post of a make, from its beginning to its end
-pub record PostServed (m : Datasheet) (M : Type 0) (bs : List (List ℕ)) (ps : List Reply) : Type 0 where
-  pub begun : Standing (Direct M)
-  pub opened : PostOpened m (replicate 64 empty_entry) begun
-  pub left : Standing (Direct M)
-  pub answered : LinesAnswered m bs begun ps left
-  -- the account after the last line, and after the end
-  pub account : RunShown m (lines_show bs ps) left.meter (chip_at left.wire.below) (entries left.book)
-  pub at_end : RunShown m (shown_ended left.hand (lines_show bs ps)) (meter_ended left.hand left.meter) (chip_at left.wire.below) (entries left.book)
-  -- the book has just the entries that were printed
-  pub book : entries left.book ≡ booked_in (lines_show bs ps)
-
--- THE WHOLE INPUT
+-- lines answered at a post of this make, with a book of 64 empty places
+pub record Served (m : Datasheet) (M : Type 0) (bs : List (List ℕ)) (ps : List Reply) : Type 0 where
+  pub wire : Scripted (Direct M)
+  pub book : Pages
+  pub served : PostServed m (replicate 64 empty_entry) bs ps wire book
 
 -- the kind that was named opens that make; if none was, no line is left
 abbrev pub ServedBy : Option Kind → List (List ℕ) → List Reply → Type 0
 ServedBy None bs ps = ps ≡ []
-ServedBy (Some Pac193x) bs ps = PostServed pac193x code193x.Pac193x bs ps
-ServedBy (Some Pac194x) bs ps = PostServed pac194x code194x.Pac194x bs ps
+ServedBy (Some Pac193x) bs ps = Served pac193x code193x.Pac193x bs ps
+ServedBy (Some Pac194x) bs ps = Served pac194x code194x.Pac194x bs ps
 
 -- the replies to all lines of an input, one each, in their order
 pub record Session (bs : List (List ℕ)) (ps : List Reply) : Type 0 where

@@ -40,7 +40,10 @@ impl<W: Wire> Meter<W> {
         book: &mut Book<'_>,
         scratch: &mut [u8],
     ) -> Result<Entry, Unspent>
-        ensures made { MadeBookCall W.Make.Make.sheet W.Wire.chip W.Wire.goes (booking (slip_of slip) (length scratch.old)) (meter_of self.old) self.old.wire (pages book.old) scratch.old (meter_of self.new) self.new.wire (pages book.new) scratch.new (book_answer result) }
+        ensures made { MadeBookCall W.Make.Make.sheet W.Wire.chip W.Wire.goes
+            (booking (slip_of slip) (length scratch.old))
+            (meter_of self.old) self.old.wire (pages book.old) scratch.old
+            (meter_of self.new) self.new.wire (pages book.new) scratch.new (book_answer result) }
         ensures back { GivesBack slip result }
         ensures same { book.new.places.ghost_name ≡ book.old.places.ghost_name }
     {
@@ -82,7 +85,9 @@ impl<W: Wire> Meter<W> {
 
     /// Gives the stretch that waits up, and counts one. Refused, it gives the slip back, as unspent as it was.
     pub fn write_off(&mut self, slip: Slip) -> Result<(), Unspent>
-        ensures made { MadeAlone W.Make.Make.sheet W.Wire.chip W.Wire.goes (write_off (slip_of slip)) (meter_of self.old) self.old.wire (meter_of self.new) self.new.wire (write_off_answer result) }
+        ensures made { MadeAlone W.Make.Make.sheet W.Wire.chip W.Wire.goes
+            (write_off (slip_of slip)) (meter_of self.old) self.old.wire
+            (meter_of self.new) self.new.wire (write_off_answer result) }
         ensures back { GivesBack slip result }
     {
         if !self.takes(&slip) {

@@ -17,7 +17,8 @@ use wire::wire::Wire;
 impl<W: Wire> Meter<W> {
     /// Closes a stretch and hands out its slip, unspent. In doubt it asks the chip first whether the last REFRESH was carried out.
     pub fn draw(&mut self) -> Result<Slip, Refusal>
-        ensures made { MadeAlone W.Make.Make.sheet W.Wire.chip W.Wire.goes draw (meter_of self.old) self.old.wire (meter_of self.new) self.new.wire (draw_answer result) }
+        ensures made { MadeAlone W.Make.Make.sheet W.Wire.chip W.Wire.goes draw (meter_of self.old)
+            self.old.wire (meter_of self.new) self.new.wire (draw_answer result) }
         ensures unspent { IfOk result IsUnspent }
     {
         let way = self.settle(Call::Draw)?;
@@ -33,7 +34,9 @@ impl<W: Wire> Meter<W> {
     // A mark in force unlike the meter's says that the REFRESH was carried out; else all is done again.
     fn draw_in_doubt(&mut self) -> Result<Slip, Refusal>
         requires { self.old.last < 2 ^ 32 - 1 }
-        ensures followed { self.old.condition ≡ Condition.InDoubt → Followed W.Wire.goes (asks_mark W.Make.Make.sheet (meter_of self.old)) self.old.wire (meter_of self.new) self.new.wire (draw_answer result) }
+        ensures followed { self.old.condition ≡ Condition.InDoubt → Followed W.Wire.goes
+            (asks_mark W.Make.Make.sheet (meter_of self.old)) self.old.wire
+            (meter_of self.new) self.new.wire (draw_answer result) }
         ensures unspent { IfOk result IsUnspent }
     {
         let number = transfer::read_number(&mut self.wire, W::Make::constants().mark)?;
@@ -46,7 +49,8 @@ impl<W: Wire> Meter<W> {
     // The wanted settings with the opposite mark, then REFRESH.
     fn refresh(&mut self) -> Result<Slip, Refusal>
         requires { self.old.last < 2 ^ 32 - 1 }
-        ensures followed { Followed W.Wire.goes (refreshes W.Make.Make.sheet (meter_of self.old)) self.old.wire (meter_of self.new) self.new.wire (draw_answer result) }
+        ensures followed { Followed W.Wire.goes (refreshes W.Make.Make.sheet (meter_of self.old))
+            self.old.wire (meter_of self.new) self.new.wire (draw_answer result) }
         ensures unspent { IfOk result IsUnspent }
     {
         match transfer::write_settings(&mut self.wire, self.wanted, !self.mark) {
@@ -61,7 +65,8 @@ impl<W: Wire> Meter<W> {
     // REFRESH.
     fn close(&mut self) -> Result<Slip, Refusal>
         requires { self.old.last < 2 ^ 32 - 1 }
-        ensures followed { Followed W.Wire.goes (closes W.Make.Make.sheet (meter_of self.old)) self.old.wire (meter_of self.new) self.new.wire (draw_answer result) }
+        ensures followed { Followed W.Wire.goes (closes W.Make.Make.sheet (meter_of self.old))
+            self.old.wire (meter_of self.new) self.new.wire (draw_answer result) }
         ensures unspent { IfOk result IsUnspent }
     {
         match self.wire.send(W::Make::constants().refresh) {
@@ -76,7 +81,8 @@ impl<W: Wire> Meter<W> {
     // The mark turns, the draw number rises, the slip is out.
     fn hand_out(&mut self) -> Slip
         requires { self.old.last < 2 ^ 32 - 1 }
-        ensures slip { slip_of result ≡ record { meter = self.old.number; draw = self.old.last + 1 } }
+        ensures slip { slip_of result
+            ≡ record { meter = self.old.number; draw = self.old.last + 1 } }
         ensures after { meter_of self.new ≡ drew (meter_of self.old) }
         ensures wire { self.new.wire ≡ self.old.wire }
         ensures unspent { IsUnspent result }

@@ -13,6 +13,17 @@ use meter::slip::Slip;
 use std::process::Abort;
 use wire::wire::Wire;
 
+// What stands in a place that nothing was written to.
+const NOTHING: Entry = Entry {
+    draw: 0,
+    spoilt: 0,
+    count: 0,
+    rate: 0,
+    off: 0,
+    two_way: 0,
+    sums: [0; 4],
+};
+
 // A meter refuses a slip at both calls, gives it back, and stays as it was.
 fn refused<W: Wire>(rt: &impl Abort, meter: &mut Meter<W>, slip: Slip) -> Slip {
     let mut places = [Entry::EMPTY; 1];
@@ -20,7 +31,7 @@ fn refused<W: Wire>(rt: &impl Abort, meter: &mut Meter<W>, slip: Slip) -> Slip {
     let slip = bench::unbooked(rt, meter, slip, &mut book, 32, Refusal::WrongSlip);
     let slip = bench::unspent(rt, meter.write_off(slip), Refusal::WrongSlip);
     same(rt, meter.write_offs(), 0);
-    same(rt, places[0], Entry::EMPTY);
+    same(rt, places[0], NOTHING);
     slip
 }
 
