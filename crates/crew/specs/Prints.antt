@@ -28,6 +28,7 @@ text_of word.Fault = codes "fault"
 abbrev pub field : ℕ → List ℕ
 field n = 44 ∷ decimal n
 
+-- the same of a number that may be negative
 abbrev pub signed_field : ℤ → List ℕ
 signed_field z = 44 ∷ signed_decimal z
 
@@ -35,20 +36,23 @@ signed_field z = 44 ∷ signed_decimal z
 abbrev pub stretch_fields : Entry → List ℕ
 stretch_fields e = field e.draw ++ (field e.spoilt ++ (field e.count ++ (field e.rate ++ (field e.off ++ field e.two_way))))
 
--- channel 1's comes first
+-- the sum of channel i + 1
 abbrev pub sum_field : List ℤ → ℕ → List ℕ
 sum_field zs i = signed_field (slice_index_or zs i (pos 0))
 
+-- all four
 abbrev pub sum_fields : List ℤ → List ℕ
 sum_fields zs = sum_field zs 0 ++ (sum_field zs 1 ++ (sum_field zs 2 ++ sum_field zs 3))
 
--- an entry in its order
+-- the fields of an entry: draw number, spoilt mark, count, rate code, off mask, two-way mask, the four sums
 abbrev pub entry_fields : Entry → List ℕ
 entry_fields e = stretch_fields e ++ sum_fields e.sums
 
+-- the fields of a bill: the energy, how many entries are billed, how many are spoilt
 abbrev pub bill_fields : Bill → List ℕ
 bill_fields b = signed_field b.energy ++ (field b.billed ++ field b.spoilt)
 
+-- the fields of what a line that was taken shows
 abbrev pub fields_of : Shown → List ℕ
 fields_of shown.Nothing = []
 fields_of (shown.Draw n) = field n
@@ -63,7 +67,7 @@ outcome_fields (Err e) = field (number_of e)
 abbrev pub printed : Reply → List ℕ
 printed r = text_of r.word ++ outcome_fields r.outcome
 
--- on a line of its own
+-- a reply and its line's end
 abbrev pub printed_line : Reply → List ℕ
 printed_line r = printed r ++ 10 ∷ []
 

@@ -40,7 +40,7 @@ pub data LinesAnswered (m : Datasheet) {M : Type 0} : List (List ℕ) → Standi
   one_line : {b : List ℕ} {bs : List (List ℕ)} {d d' d'' : Standing (Direct M)} {p : Reply} {ps : List Reply} → LineAnswered m (asked b) d p d'
       → LinesAnswered m bs d' ps d'' → LinesAnswered m (b ∷ bs) d (p ∷ ps) d''
 
--- the cycles that these lines ask, the entries that these replies show and the write-offs that they take, the newest first
+-- the cycles that these lines ask, the entries that their replies show and the write-offs that were granted, the newest first
 abbrev pub lines_show : List (List ℕ) → List Reply → History
 lines_show [] ps = []
 lines_show (b ∷ bs) [] = []
