@@ -48,7 +48,7 @@ def check(command, example):
     done = subprocess.run(command, input=source, capture_output=True)
     unlike = differences(source, expected, done.stdout)
     long = len(source) > LONGEST_INPUT
-    warned = done.stderr.count(b"\n") == long
+    warned = done.stderr.count(b"\n") == long and bool(done.stderr) == long
     good = not unlike and warned and done.returncode == 0
     if long:
         with open("/dev/full", "wb") as full:
