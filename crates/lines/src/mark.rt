@@ -7,8 +7,10 @@ pub(crate) fn cut(bytes: &[u8], mark: u8) -> (&[u8], Option<&[u8]>)
     ensures no_mark { All (λ b. b ≢ mark) result.0.now }
     ensures whole { MatchOption result.1 (bytes.now ≡ result.0.now) (λ rest. bytes.now ≡ result.0.now ++ mark ∷ rest.now) }
 {
-    match bytes.iter().position(|b| *b == mark) {
-        Some(at) => (&bytes[..at], Some(&bytes[at + 1..])),
-        None => (bytes, None),
+    for (at, byte) in bytes.iter().enumerate() {
+        if *byte == mark {
+            return (&bytes[..at], Some(&bytes[at + 1..]));
+        }
     }
+    (bytes, None)
 }

@@ -1,5 +1,5 @@
 //! A line's pieces between commas, as tokens that borrow their bytes from the line and know their place in it.
-ghost use Rattle.std.specs.Prelude.{◌≡◌, ◌+◌, ◌<◌, ◌≤◌, ◌^◌, true, length};
+ghost use Rattle.std.specs.Prelude.{◌≡◌, ◌+◌, ◌<◌, ◌≤◌, ◌^◌, true, false, length, MatchOption};
 ghost use Rattle.std.specs.Char.{is_ascii_digit};
 ghost use Rattle.std.specs.List.{list_all};
 ghost use Rattle.lines.specs.Cuts.{extent, pieces, placed};
@@ -59,24 +59,19 @@ impl<'a> Iterator for Tokens<'a> {
     }
 }
 
-// Whether all bytes are digits.
-fn is_decimal(text: &[u8]) -> bool
-    ensures { result ≡ list_all is_ascii_digit text.now }
-{
-    text.iter().all(|b| b.is_ascii_digit())
-}
-
-// What at most five digits are worth.
-fn worth(digits: &[u8]) -> u32
-    requires digits { list_all is_ascii_digit digits.now ≡ true }
-    requires few { length digits.now ≤ 5 }
-    ensures { result ≡ worth digits.now }
+// What at most five digits are worth, if all are digits.
+fn worth(text: &[u8]) -> Option<u32>
+    requires { length text.now ≤ 5 }
+    ensures { MatchOption result (list_all is_ascii_digit text.now ≡ false) (λ n. (list_all is_ascii_digit text.now ≡ true) × (n ≡ worth text.now)) }
 {
     let mut number = 0;
-    for digit in digits {
-        number = 10 * number + u32::from(*digit - b'0');
+    for byte in text {
+        if !byte.is_ascii_digit() {
+            return None;
+        }
+        number = 10 * number + u32::from(*byte - b'0');
     }
-    number
+    Some(number)
 }
 
 // A field's number: one to five digits, at most 65,535.
@@ -87,9 +82,10 @@ impl TryFrom<Token<'_>> for u16 {
 
     fn try_from(token: Token) -> Result<u16, Refusal> {
         let text = token.text;
-        if text.is_empty() || text.len() > 5 || !is_decimal(text) {
+        if text.is_empty() || text.len() > 5 {
             return Err(Refusal::Unreadable);
         }
-        u16::try_from(worth(text)).map_err(|_| Refusal::Unreadable)
+        let number = worth(text).ok_or(Refusal::Unreadable)?;
+        u16::try_from(number).map_err(|_| Refusal::Unreadable)
     }
 }

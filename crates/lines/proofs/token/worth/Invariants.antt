@@ -1,9 +1,11 @@
-use Rattle.std.proofs.Common.{◌≡◌, ◌-◌, ◌^◌, ◌<◌, map, drop}
+use Rattle.std.proofs.Common.{◌≡◌, ◌-◌, ◌^◌, ◌<◌, true, map, drop, take}
+use Rattle.std.specs.Char.{is_ascii_digit}
 use Rattle.std.specs.Int.Digits.{number_from_digits_after}
+use Rattle.std.specs.List.{list_all}
 use Rattle.lines.specs.Fields.{worth}
 use Rattle.lines.proofs.token.worth.Given as goal
 
--- the digits so far with those that are left, and room for one more
-abbrev pub invariant-loop-digit : goal.invariant-loop-digit
-invariant-loop-digit l =
-    (number_from_digits_after 10 l.number (map (λ b. b - 48) (drop l.digit-index l.digits)) ≡ worth l.digits) × (l.number < 10 ^ l.digit-index)
+-- all digits so far; those with what is left; and room for one more
+abbrev pub invariant-loop-byte : goal.invariant-loop-byte
+invariant-loop-byte l =
+    (list_all is_ascii_digit (take l.byte-index l.text) ≡ true) × (number_from_digits_after 10 l.number (map (λ b. b - 48) (drop l.byte-index l.text)) ≡ worth l.text) × (l.number < 10 ^ l.byte-index)
