@@ -1,9 +1,9 @@
 -- Numbers as bytes, the highest first.
-use Rattle.std.proofs.Common.{◌≡◌, ℕ, zero, suc, ◌+◌, ◌-◌, ◌*◌, ◌/◌, ◌^◌, ◌<◌, ◌≤◌, min, List, [], ◌∷◌, ◌++◌, length, get_or, take, drop, replicate, sym, refl, ap, ◌∙◌, ⊎_elim, append-nil, w64, arith, lit<, pow-suc}
+use Rattle.std.proofs.Common.{◌≡◌, ℕ, zero, suc, ◌+◌, ◌-◌, ◌*◌, ◌/◌, ◌%◌, ◌^◌, ◌<◌, ◌≤◌, min, List, [], ◌∷◌, ◌++◌, length, get_or, take, drop, replicate, set, sym, refl, ap, ◌∙◌, ⊎_elim, append_assoc, append-nil, le_of_suc-le-suc, w64, arith, lit<, pow-add, pow-suc}
 use native.Mathlib.Nat.{pow-le-pow_right}
 use Rattle.std.proofs.lemmas.Nat.{mul-add-lt}
-use Rattle.std.specs.Int.{from_be_bytes, to_be_bytes}
-use Rattle.std.proofs.lemmas.List.{drop_all, length-append, length-drop, length-replicate, take-replicate, take_all}
+use Rattle.std.specs.Int.{from_be_bytes}
+use Rattle.std.proofs.lemmas.List.{drop_all, drop_more, length-append, length-drop, length-replicate, length-take-le, set_at, take-replicate, take_all, take_more}
 use Rattle.std.proofs.lemmas.Bool.{cases_lt}
 use borrow.Rule.Slice.PartMut.{put_mid}
 use Rattle.chip.specs.Registers.{big_endian, number}
@@ -28,17 +28,36 @@ zeros_before : (k : ℕ) (bs : List ℕ) → number (replicate k 0 ++ bs) ≡ nu
 zeros_before zero bs = refl
 zeros_before (suc k) bs = omega (arith, zeros_before k bs)
 
--- the library's bytes are ours
-eight_bytes : (n : ℕ) → to_be_bytes w64 n ≡ big_endian 8 n
-eight_bytes n = let e : n / 1 ≡ n = omega arith in rw e refl
-
-drop_big_endian : (k w n : ℕ) → drop k (big_endian (k + w) n) ≡ big_endian w n
-drop_big_endian zero w n = let e : 0 + w ≡ w = omega arith in rw e refl
-drop_big_endian (suc k) w n = let e : suc k + w ≡ suc (k + w) = omega arith in rw e (drop_big_endian k w n)
+-- a shift by whole bytes
+pub by_bytes : (k : ℕ) → 2 ^ (8 * k) ≡ 256 ^ k
+by_bytes zero = refl
+by_bytes (suc k) =
+    (let e : 8 * suc k ≡ 8 * k + 8 = omega arith in ap (λ x. 2 ^ x) e)
+    ∙ pow-add 2 (8 * k) 8
+    ∙ ap (λ x. x * 256) (by_bytes k)
+    ∙ sym (pow-suc 256 k)
 
 pub big_endian_length : (w n : ℕ) → length (big_endian w n) ≡ w
 big_endian_length zero n = refl
 big_endian_length (suc w) n = ap suc (big_endian_length w n)
+
+-- the byte at i
+pub big_endian_at : (w n i : ℕ) → i < w → get_or (big_endian w n) i 0 ≡ (n / 256 ^ (w - 1 - i)) % 256
+big_endian_at zero n i h = absurd (omega arith)
+big_endian_at (suc w) n zero h = let e : suc w - 1 - 0 ≡ w = omega arith in rw e refl
+big_endian_at (suc w) n (suc i) h =
+    let e : suc w - 1 - suc i ≡ w - 1 - i = omega arith in
+    rw e (big_endian_at w n i (le_of_suc-le-suc h))
+
+-- one element more of xs over the start of ys
+pub over_more : (xs ys : List ℕ) (i v : ℕ) → i < length xs → i < length ys → v ≡ get_or xs i 0
+    → set (take i xs ++ drop i ys) i v ≡ take (i + 1) xs ++ drop (i + 1) ys
+over_more xs ys i v h k e =
+    ap (λ zs. set (take i xs ++ zs) i v) (drop_more ys i 0 k)
+    ∙ set_at (take i xs) (get_or ys i 0) (drop (i + 1) ys) v i (length-take-le i xs (omega arith))
+    ∙ ap (λ x. take i xs ++ x ∷ drop (i + 1) ys) e
+    ∙ sym (append_assoc (take i xs) (get_or xs i 0 ∷ []) (drop (i + 1) ys))
+    ∙ ap (λ zs. zs ++ drop (i + 1) ys) (sym (take_more xs i 0 h))
 
 -- all of xs over the start of ys, as far as ys goes
 pub over_all : (xs ys : List ℕ) (i : ℕ) → i ≡ min (length xs) (length ys) → take i xs ++ drop i ys ≡ take (length ys) xs ++ drop (length xs) ys
@@ -59,18 +78,6 @@ over_all xs ys i e = ⊎_elim short long (cases_lt (length xs) (length ys))
 -- more bytes hold it too
 pub more_room : (v n k : ℕ) → v < 256 ^ n → n ≤ k → v < 256 ^ k
 more_room v n k below le = let top : 256 ^ n ≤ 256 ^ k = pow-le-pow_right (lit< tt) le in omega arith
-
--- the last w of a number's eight bytes, as many as there is room for, over the start of ys
-pub last_bytes : (w n count : ℕ) (ys : List ℕ) → w ≤ 8 → count ≡ min w (length ys)
-    → take (8 - w + count - (8 - w)) (drop (8 - w) (to_be_bytes w64 n)) ++ drop count ys ≡ take (length ys) (big_endian w n) ++ drop w ys
-last_bytes w n count ys h e =
-    let k : 8 - w + count - (8 - w) ≡ count = omega arith in
-    let eight : 8 ≡ 8 - w + w = omega arith in
-    let long = big_endian_length w n in
-    (λ j. take (k j) (drop (8 - w) ((eight_bytes n ∙ ap (λ x. big_endian x n) eight) j)) ++ drop count ys)
-    ∙ ap (λ xs. take count xs ++ drop count ys) (drop_big_endian (8 - w) w n)
-    ∙ over_all (big_endian w n) ys count (omega (arith, long, e))
-    ∙ ap (λ x. take (length ys) (big_endian w n) ++ drop x ys) long
 
 -- bytes put at the end of eight zeros write the same number
 pub padded : (bs xs : List ℕ) → length bs ≤ 8 → xs ≡ bs → from_be_bytes w64 (put_mid (8 - length bs) (8 - (8 - length bs)) (replicate {A = ℕ} 8 0) xs) ≡ number bs

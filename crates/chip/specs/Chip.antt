@@ -17,18 +17,23 @@ use Rattle.chip.specs.Registers.{in_mask, value_of, in_range, bits_of, big_endia
 abbrev pub all_off : Datasheet → Settings → Bool
 all_off m s = m.off s == 15
 
+module _ (m : Datasheet) (two_way : Bool) where
+  -- the true sum of channel i after a cycle, one-way or two-way
+  abbrev pub sum_after : (i : ℕ) → Codes → Channel → ℤ
+  sum_after i k c = value_of m.sum_bits two_way c.sum +ℤ m.product i two_way k
+
+  -- it takes codes and product as latest, and adds the product to its sum
+  abbrev pub converted : (i : ℕ) → Codes → Channel → Channel
+  converted i k c = record { latest = k; product = m.product i two_way k; sum = bits_of m.sum_bits (sum_after i k c) }
+
 module _ (m : Datasheet) (s : Settings) where
   -- the true sum of channel i after a cycle
   abbrev pub true_sum : (i : ℕ) → Codes → Channel → ℤ
-  true_sum i k c = value_of m.sum_bits (in_mask (m.two_way s) i) c.sum +ℤ m.product i (in_mask (m.two_way s) i) k
+  true_sum i k c = sum_after m (in_mask (m.two_way s) i) i k c
 
-  -- a channel that is on takes codes and product as latest, and adds the product to its sum
+  -- a channel that is on is converted
   abbrev pub adds : (i : ℕ) → Codes → Channel → Channel
-  adds i k c = cond (in_mask (m.off s) i) c (record {
-    latest = k;
-    product = m.product i (in_mask (m.two_way s) i) k;
-    sum = bits_of m.sum_bits (true_sum i k c);
-  })
+  adds i k c = cond (in_mask (m.off s) i) c (converted m (in_mask (m.two_way s) i) i k c)
 
   -- its true sum is out of the register's range
   abbrev pub leaves : (i : ℕ) → Codes → Channel → Bool

@@ -15,6 +15,10 @@ abbrev pub in_range : (bits : ℕ) → (two_way : Bool) → ℤ → Bool
 in_range bits two_way z =
     cond two_way (int_le (negsuc (2 ^ (bits - 1) - 1)) z && int_lt z (pos (2 ^ (bits - 1)))) (int_le (pos 0) z && int_lt z (pos (2 ^ bits)))
 
+-- how far the lowest of these is below 0
+abbrev pub below_zero : (bits : ℕ) → (two_way : Bool) → ℕ
+below_zero bits two_way = cond two_way (2 ^ (bits - 1)) 0
+
 -- a number modulo 2^bits, as a register keeps it
 abbrev pub bits_of : (bits : ℕ) → ℤ → ℕ
 bits_of bits z = unsigned_abs (int_rem_euclid z (pos (2 ^ bits)))

@@ -39,11 +39,13 @@ impl<M: Make> Chip<M> {
     }
 
     /// One conversion cycle.
+    #[inline(always)]
     pub fn cycle(&mut self, codes: [Codes; 4])
         ensures { self.new.state ≡ cycled M.Make.sheet codes self.old.state }
     {
-        let settings = self.state.active;
-        if !M::masks(settings).all_off() {
+        // Copied behind the test: a cycle that finds all channels off copies nothing.
+        if !M::masks(self.state.active).all_off() {
+            let settings = self.state.active;
             self.state.running.cycle::<M>(settings, &codes);
         }
     }

@@ -1,7 +1,7 @@
 //! What a chip holds, and what cycles and commands make of it. The definitions in specs/ speak of these very types.
-ghost use Rattle.std.specs.Prelude.{◌≡◌, ℕ, ◌<◌, ◌≤◌, map, length, ◌==◌};
-ghost use Rattle.chip.specs.Chip.{add_all, adds, any_leaves, cleared, counted, fresh_from, latched, leaves, ran, refreshed, zeroed};
-ghost use Rattle.chip.specs.Registers.{in_mask};
+ghost use Rattle.std.specs.Prelude.{◌≡◌, ℕ, ◌<◌, ◌≤◌, map, length, not, ◌==◌};
+ghost use Rattle.chip.specs.Chip.{add_all, adds, any_leaves, cleared, converted, counted, fresh_from, latched, leaves, ran, refreshed, sum_after, zeroed};
+ghost use Rattle.chip.specs.Registers.{in_mask, in_range};
 
 use super::driver::Span;
 use super::make::Make;
@@ -143,16 +143,28 @@ impl Channel {
         if masks.is_off(channel) {
             return false;
         }
-        let two_way = masks.is_two_way(channel);
-        let format = Format::new(M::constants().sum_bits, two_way);
+        // Each way by itself: settings seldom change, so a branch costs less than both ways' numbers.
+        if masks.is_two_way(channel) {
+            self.convert::<M>(channel, true, codes)
+        } else {
+            self.convert::<M>(channel, false, codes)
+        }
+    }
+
+    // The same of a channel that is on.
+    fn convert<M: Make>(&mut self, channel: usize, two_way: bool, codes: Codes) -> bool
+        ensures after { self.new ≡ converted M.Make.sheet two_way channel codes self.old }
+        ensures left { result ≡ not (in_range M.Make.sheet.sum_bits two_way (sum_after M.Make.sheet two_way channel codes self.old)) }
+    {
         let product = M::product(channel, two_way, codes);
-        let sum = format.value(self.sum) + i128::from(product);
+        let format = Format::new(M::constants().sum_bits, two_way);
+        let (sum, left) = format.add(self.sum, product);
         *self = Channel {
             latest: codes,
             product,
-            sum: format.bits_of(sum),
+            sum,
         };
-        !format.contains(sum)
+        left
     }
 }
 

@@ -35,6 +35,7 @@ impl<M: Make> Wire for Direct<M> {
 
     ghost meant = { direct_is_wire M.Make.sheet (λ s. s.chip.state) };
 
+    #[inline(always)]
     fn cycle(&mut self, codes: [Codes; 4]) {
         self.chip.cycle(codes);
     }

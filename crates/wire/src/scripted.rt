@@ -73,6 +73,7 @@ impl<W: Wire> Wire for Scripted<W> {
 
     ghost meant = { scripted_is_wire W.Make.Make.sheet W.Wire.meant };
 
+    #[inline(always)]
     fn cycle(&mut self, codes: [Codes; 4]) {
         self.below.cycle(codes);
     }
