@@ -1,6 +1,7 @@
 -- A book keeps what it holds.
 use Rattle.std.proofs.Common.{◌≡◌, ℕ, zero, suc, ◌<◌, ◌≤◌, List, [], ◌∷◌, ◌++◌, length, get_or, take, set, sym, refl, ap, ◌∙◌, add-one, arith}
-use Rattle.account.specs.Book.{BooksKeep, KeptWell, book_after}
+use Rattle.std.proofs.lemmas.List.{append-nil}
+use Rattle.account.specs.Book.{BookGrows, BooksKeep, KeptWell, book_after}
 use Rattle.book.specs.Book.{Pages, entries}
 use Rattle.account.specs.Dialogue.{Answer, billed, entered, given_up, handed, looked, refused, stored}
 use Rattle.account.specs.History.{entries_after}
@@ -47,6 +48,15 @@ kept given_up b l = left_kept b given_up refl refl
 kept (looked g) b l = left_kept b (looked g) refl refl
 kept (billed z n k) b l = left_kept b (billed z n k) refl refl
 kept (refused r) b l = left_kept b (refused r) refl refl
+
+pub book_grows : BookGrows
+book_grows (entered e) es = (e ∷ [], refl, omega arith)
+book_grows stored es = ([], sym (append-nil es), omega arith)
+book_grows (handed p) es = ([], sym (append-nil es), omega arith)
+book_grows given_up es = ([], sym (append-nil es), omega arith)
+book_grows (looked g) es = ([], sym (append-nil es), omega arith)
+book_grows (billed z n k) es = ([], sym (append-nil es), omega arith)
+book_grows (refused r) es = ([], sym (append-nil es), omega arith)
 
 pub books_keep : BooksKeep
 books_keep = record { filled_many = λ b l. taken_many b.places b.filled l; kept = kept; a_new_one = λ xs. refl }

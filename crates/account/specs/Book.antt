@@ -1,5 +1,5 @@
 -- What a call leaves of a book.
-use Rattle.std.specs.Prelude.{◌≡◌, ℕ, ◌<◌, ◌≤◌, List, [], length, ◌≢◌, slice_index_or}
+use Rattle.std.specs.Prelude.{◌≡◌, ℕ, ◌<◌, ◌≤◌, List, [], ◌++◌, length, ◌≢◌, slice_index_or}
 use Rattle.chip.specs.declared.entry.Entry.{Entry}
 use Rattle.book.specs.Book.{Pages, entries, put}
 use Rattle.account.specs.Dialogue.{Answer, stored, handed, entered, given_up, looked, billed, refused}
@@ -24,3 +24,7 @@ pub record BooksKeep : Type 0 where
   pub filled_many : (b : Pages) → b.filled ≤ length b.places → length (entries b) ≡ b.filled
   pub kept : (r : Answer) (b : Pages) → b.filled < length b.places → KeptWell r b
   pub a_new_one : (xs : List Entry) → entries (record { places = xs; filled = 0 }) ≡ []
+
+-- earlier entries never change: whatever is answered, at most one entry comes, after those that there were
+abbrev pub BookGrows : Type 0
+BookGrows = (r : Answer) (es : List Entry) → (added : List Entry) × (entries_after r es ≡ es ++ added) × (length added ≤ 1)

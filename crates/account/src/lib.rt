@@ -1,7 +1,7 @@
 //! The theory of the meter: functions that do nothing, whose contracts are its theorems.
 #![tactic(auto)]
 
-ghost use Rattle.account.specs.Book.{BooksKeep};
+ghost use Rattle.account.specs.Book.{BookGrows, BooksKeep};
 ghost use Rattle.account.specs.CallRules.{EveryCall};
 ghost use Rattle.account.specs.Calls.{CarriesRuns, CallsExact};
 ghost use Rattle.account.specs.Single.{single};
@@ -40,6 +40,11 @@ pub fn calls_are_exact<M: Make>()
 /// A booking fills the next free place and leaves every other.
 pub fn books_keep_what_they_hold()
     ensures { BooksKeep }
+{}
+
+/// Earlier entries never change.
+pub fn the_book_only_grows()
+    ensures { BookGrows }
 {}
 
 /// A make of one channel with other addresses keeps the laws, so nothing rests on the makes with four.
