@@ -17,11 +17,10 @@ use wire::scripted::Scripted;
 
 fn main(rt: HostRuntime) -> anyhow::Result<()> {
     let mut text = Vec::new(rt.alloc());
-    // One byte more than is answered tells whether there is a rest.
-    rt.stdin().take(LIMIT as u64 + 1).read_to_end(&mut text)?;
+    rt.stdin().take(LIMIT as u64).read_to_end(&mut text)?;
     run(&rt, Input::new(text.as_slice()))?;
-    if text.len() > LIMIT {
-        // The replies stand, whatever becomes of this line.
+    // One byte more tells whether there is a rest. The replies do not wait for it, and stand, whatever becomes of it and of this line.
+    if text.len() == LIMIT && matches!(rt.stdin().read(&mut [0]), Ok(1)) {
         let _ = eprintln!(rt; "console: only the first {LIMIT} bytes of the input were read");
     }
     Ok(())

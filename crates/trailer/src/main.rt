@@ -8,12 +8,11 @@ use std::io::{Read, Write};
 
 fn main(rt: HostRuntime) -> anyhow::Result<()> {
     let mut input = Vec::new(rt.alloc());
-    // One byte more than is answered tells whether there is a rest.
-    rt.stdin().take(LIMIT as u64 + 1).read_to_end(&mut input)?;
+    rt.stdin().take(LIMIT as u64).read_to_end(&mut input)?;
     let replies = session::answer(rt.alloc(), input.as_slice())?;
     io::writer(&rt).write_all(replies.as_bytes())?;
-    if input.len() > LIMIT {
-        // The replies stand, whatever becomes of this line.
+    // One byte more tells whether there is a rest. The replies do not wait for it, and stand, whatever becomes of it and of this line.
+    if input.len() == LIMIT && matches!(rt.stdin().read(&mut [0]), Ok(1)) {
         let _ = eprintln!(rt; "trailer: only the first {LIMIT} bytes of the input were read");
     }
     Ok(())
