@@ -43,7 +43,7 @@ impl<M: Make> Chip<M> {
     pub fn cycle(&mut self, codes: [Codes; 4])
         ensures { self.new.state ≡ cycled M.Make.sheet codes self.old.state }
     {
-        // Copied behind the test: a cycle that finds all channels off copies nothing.
+        // The settings are copied behind the test: a cycle that finds all channels off needs no copy of them.
         if !M::masks(self.state.active).all_off() {
             let settings = self.state.active;
             self.state.running.cycle::<M>(settings, &codes);

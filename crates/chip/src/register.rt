@@ -9,7 +9,7 @@ pub fn in_mask(mask: u8, channel: usize) -> bool
     (mask >> 3usize.saturating_sub(channel)) % 2 == 1
 }
 
-// Products up to so much are added in 64 bits.
+// Products of less than this are added in 64 bits.
 const MOST: i64 = 1 << 62;
 
 // A sum register: how many bits it has, and whether they are read in two's complement.
@@ -176,7 +176,7 @@ pub(crate) fn put(value: u64, width: usize, bytes: &mut [u8]) -> usize
     ensures count { result ≡ min width (length bytes.old) }
     ensures after { bytes.new ≡ take (length bytes.old) (big_endian width value) ++ drop width bytes.old }
 {
-    // Byte by byte: for the few bytes of a register a copy of eight costs half as much again, or twice as much.
+    // One by one: a copy of so few bytes is a call, and reads of a PAC193X took 1.5 to 1.9 times as long with it.
     let count = width.min(bytes.len());
     for i in 0..count {
         bytes[i] = ((value >> (8 * (width - 1 - i))) % 256) as u8;

@@ -20,7 +20,7 @@ fn main(rt: HostRuntime) -> anyhow::Result<()> {
     rt.stdin().take(LIMIT as u64).read_to_end(&mut text)?;
     run(&rt, Input::new(text.as_slice()))?;
     // One byte more tells whether there is a rest. The replies do not wait for it, and stand, whatever becomes of it and of this line.
-    if text.len() == LIMIT && matches!(rt.stdin().read(&mut [0]), Ok(1)) {
+    if text.len() == LIMIT && rt.stdin().read_exact(&mut [0]).is_ok() {
         let _ = eprintln!(rt; "console: only the first {LIMIT} bytes of the input were read");
     }
     Ok(())

@@ -12,7 +12,7 @@ fn main(rt: HostRuntime) -> anyhow::Result<()> {
     let replies = session::answer(rt.alloc(), input.as_slice())?;
     io::writer(&rt).write_all(replies.as_bytes())?;
     // One byte more tells whether there is a rest. The replies do not wait for it, and stand, whatever becomes of it and of this line.
-    if input.len() == LIMIT && matches!(rt.stdin().read(&mut [0]), Ok(1)) {
+    if input.len() == LIMIT && rt.stdin().read_exact(&mut [0]).is_ok() {
         let _ = eprintln!(rt; "trailer: only the first {LIMIT} bytes of the input were read");
     }
     Ok(())
